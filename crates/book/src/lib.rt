@@ -1,0 +1,2 @@
+// The book of one expiry: its records, the book itself with what every book keeps, its file, its look-up and its prices.
+pub mod records;
