@@ -1,0 +1,2 @@
+pub mod FirstIs
+pub mod FirstLeast

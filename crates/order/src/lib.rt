@@ -1,0 +1,1 @@
+// First by an order: the first open record of a list.
