@@ -1,7 +1,7 @@
 -- The first open record of a list by a total order: in words, and as a function.
 use Prim.Native.Nat.{ℕ, _+_, _<_}
 use mathlib.Core.Path.{_≡_}
-use mathlib.Core.Bool.{Bool, true, false, cond, _&&_}
+use mathlib.Core.Bool.{Bool, true, false, cond, _&&_, _||_}
 use mathlib.Core.List.{List, [], _∷_}
 use lib.ListN.{length, getD}
 use Rattle.std.specs.declared.option.Option.{Option}
@@ -48,3 +48,8 @@ first leq passes (x ∷ xs) = chosen leq (passes x) x (first leq passes xs)
 abbrev pub place-of : {X : Type 0} → Option (ℕ × X) → Option ℕ
 place-of None = None
 place-of (Some (i, x)) = Some i
+
+-- Whether some record of a list passes.
+abbrev pub any : {X : Type 0} → (X → Bool) → List X → Bool
+any passes [] = false
+any passes (x ∷ xs) = passes x || any passes xs

@@ -1,6 +1,6 @@
 use mathlib.Core.Path.{sym, _∙_}
 use Rattle.order.proofs.search_all.Needs as need
-use Rattle.order.proofs.Firsts.{words-defined}
+use Rattle.order.proofs.FirstIs.{words-defined}
 
 pub returns : need.returns
 returns g c =

@@ -1,4 +1,4 @@
--- The definition of the first record that passes, and the words for it, say the same.
+-- The definition of the first record that passes: where it gives a record, where none, and that the words say the same.
 use Prim.Native.Nat.{ℕ, zero, suc, _+_, _-_, _<_, _≤_}
 use native.Mathlib.Numerals.{add-one}
 use mathlib.Core.Path.{_≡_, refl, sym, ap, subst, _∙_}

@@ -1,0 +1,44 @@
+-- Pairings of a book, and what makes one good: few pairs, and most contracts near.
+use Prim.Native.Nat.{ℕ, _+_, _≤_, _<_}
+use mathlib.Core.Path.{_≡_}
+use mathlib.Core.Bool.{Bool, true, false, _&&_, cond}
+use mathlib.Core.List.{List, [], _∷_}
+use lib.Dec.{eqb}
+use lib.IntN.{ℤ, subℕ}
+use lib.ListN.{length}
+use Rattle.std.specs.shelf.Lists.{All}
+use Rattle.order.specs.First.{any}
+use Rattle.book.specs.Books.{Contents, holder, buys, sells}
+use Rattle.pairing.specs.declared.stage.Stage.{Stage}
+use Rattle.pairing.specs.declared.line.Line.{Line}
+use Rattle.pairing.specs.Pairing.{key, unpaired}
+use Rattle.pairing.specs.Lines.{total}
+
+-- What the lines of a row add up to: bought contracts count plus, sold ones minus.
+abbrev pub position-on : List Line → ℕ → ℤ
+position-on ls row = subℕ (total (λ l. eqb (l .buyer) row) (λ l. l .contracts) ls) (total (λ l. eqb (l .seller) row) (λ l. l .contracts) ls)
+
+-- A pairing of the book puts each contract bought against a sold one of its own: every line has a buyer and a seller of
+-- the book, and each holder's lines add up to its position.
+pub record Pairing (b : Contents) (ls : List Line) : Type 0 where
+  pub sides : All (λ l. (buys (holder b (l .buyer)) ≡ true) × (sells (holder b (l .seller)) ≡ true)) ls
+  pub positions : (row : ℕ) → position-on ls row ≡ holder b row .position
+
+-- The member, clearing member or payment agent of the holder in a row.
+abbrev pub group-of : Contents → Stage → ℕ → ℕ
+group-of b stage row = key stage (unpaired (holder b row))
+
+-- The contracts within one member, clearing member or agent: those whose buyer and seller share it.
+abbrev pub within : Contents → Stage → ℕ → List Line → ℕ
+within b stage number ls = total (λ l. eqb (group-of b stage (l .buyer)) number && eqb (group-of b stage (l .seller)) number) (λ l. l .contracts) ls
+
+-- How many different pairs of buyer and seller lines name.
+abbrev pub different-pairs : List Line → ℕ
+different-pairs [] = 0
+different-pairs (l ∷ ls) = cond (any (λ k. eqb (k .buyer) (l .buyer) && eqb (k .seller) (l .seller)) ls) 0 1 + different-pairs ls
+
+pub record Well-paired (b : Contents) (ls : List Line) : Type 0 where
+  pub pairing : Pairing b ls
+  pub fewer : different-pairs ls < length (b .holders)
+  -- Every other pairing has at most as many contracts within each member, clearing member and agent.
+  pub nearest : (other : List Line) → Pairing b other → (stage : Stage) (number : ℕ) → within b stage number other ≤ within b stage number ls

@@ -1,0 +1,4 @@
+pub mod Orders
+pub mod Pairing
+pub mod Lines
+pub mod Laws

@@ -1,0 +1,2 @@
+// Registers: what they keep and when they refuse.
+pub mod fault;

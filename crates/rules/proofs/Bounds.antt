@@ -1,0 +1,163 @@
+-- Units, values, nets and claims of a sound book stay far below 2^63.
+use mathlib.Core.Path.{_≡_, refl, sym, _∙_, ap}
+use mathlib.Core.Bool.{Bool, true, false, cond, _&&_}
+use mathlib.Core.Logic.{_⊎_, inl, inr}
+use mathlib.Core.List.{List, [], _∷_}
+use Prim.Native.Nat.{ℕ, zero, suc, _+_, _-_, _*_, _/_, _≤_, _<_}
+use native.Mathlib.Omega.{arith}
+use native.Mathlib.Nat.{mul-le-mul, mul-le-mul-left, mul-le-mul-right, mul-assoc, add-mul}
+use lib.Dec.{eqb, ltb}
+use lib.IntN.{ℤ, pos, negsuc, natAbs, subℕ, _+ℤ_, _-ℤ_, _*ℤ_, negℤ, pos-*ℤ-pos, pos-*ℤ-negsuc}
+use lib.ListN.{length, getD}
+use Rattle.std.specs.shelf.Lists.{sumBy, All}
+use Rattle.std.proofs.shelf.Sums.{sumBy-cons}
+use Rattle.std.proofs.shelf.Elements.{all-weaker, all-getD}
+use Rattle.std.proofs.shelf.Lists.{getD-past}
+use Rattle.std.proofs.shelf.Tests.{cases-lt, cond-both, ltb-true}
+use Rattle.std.proofs.shelf.Signed.{ints}
+use Rattle.book.specs.declared.records.Asset.{Asset}
+use Rattle.pairing.specs.declared.line.Line.{Line}
+use Rattle.book.specs.Books.{Contents, Sound, Asset-in-range, asset-at, no-asset, invoice, invoice-of, value, difference}
+use Rattle.pairing.specs.Lines.{sumℤ, total, of-seller, of-buyer, of-asset, inside, unsettled, buyer-agent, seller-agent, value-bought, value-sold, net, debit, differences, claim-on}
+use Rattle.rules.specs.Tally.{Opening, Tally, in-session, claim}
+use Rattle.rules.proofs.Totals.{sum-le}
+use Rattle.rules.proofs.Kept.{Kept, Sane, gave, got}
+
+-- ---- prices
+
+invoice-at-most : (price : ℕ) (x : Asset) → price ≤ 100000000 → x .factor ≤ 2000000 → x .accrued ≤ 10000000 → invoice-of price x ≤ 210000000
+invoice-at-most price x p f a =
+  let m : price * x .factor ≤ 100000000 * 2000000 = mul-le-mul p f in
+  omega (arith, m)
+
+pub invoice-bound : (b : Contents) (a : ℕ) → Sound b → invoice b a ≤ 210000000
+invoice-bound b a s = elim (cases-lt a (length (b .assets)))
+  [ inl lt ↦ let v = all-getD Asset-in-range (b .assets) a no-asset lt (s .assets) in invoice-at-most (b .terms .price) (asset-at b a) (s .price .1) (v .factor .1) (v .accrued .1)
+  | inr past ↦ let e : asset-at b a ≡ no-asset = getD-past (b .assets) a no-asset past in rw e (invoice-at-most (b .terms .price) no-asset (s .price .1) (omega arith) (omega arith)) ]
+
+pub market-bound : (b : Contents) (a : ℕ) → Sound b → asset-at b a .market ≤ 210000000
+market-bound b a s = elim (cases-lt a (length (b .assets)))
+  [ inl lt ↦ let v = all-getD Asset-in-range (b .assets) a no-asset lt (s .assets) in v .market .1
+  | inr past ↦ let e : asset-at b a ≡ no-asset = getD-past (b .assets) a no-asset past in rw e (omega arith) ]
+
+-- 1,000 times 210,000,000
+pub value-bound : (b : Contents) (a n : ℕ) → Sound b → value b a n ≤ n * 210000000000
+value-bound b a n s =
+  let p : n * b .terms .multiplier * invoice b a ≤ n * 1000 * 210000000 = mul-le-mul (mul-le-mul-left n (s .multiplier .1)) (invoice-bound b a s) in
+  let q = mul-assoc n 1000 210000000 in
+  omega (arith, p, q)
+
+-- ---- sums
+
+sum-scaled : (f c : Line → ℕ) (q : ℕ) (ls : List Line) → All (λ l. f l ≤ c l * q) ls → sumBy f ls ≤ sumBy c ls * q
+sum-scaled f c q [] a = omega arith
+sum-scaled f c q (x ∷ xs) a =
+  let p = a .0 in let r = sum-scaled f c q xs (a .1) in
+  let d = add-mul (c x) (sumBy c xs) q in
+  rw (sumBy-cons f x xs, sumBy-cons c x xs, d) (omega arith)
+
+cond-le : (p : Bool) (x y : ℕ) → x ≤ y → cond p x 0 ≤ y
+cond-le true x y h = h
+cond-le false x y h = omega arith
+
+-- the value of the lines that pass, of at most their contracts
+value-sum : (b : Contents) (p : Line → Bool) (f : Line → ℕ) (ls : List Line) → Sound b → All (λ l. f l ≤ l .contracts) ls → sumBy (λ l. l .contracts) ls ≤ 1000000
+  → sumBy (λ l. cond (p l) (value b (l .asset) (f l)) 0) ls ≤ 210000000000000000
+value-sum b p f ls s a few =
+  let e = sum-scaled (λ l. cond (p l) (value b (l .asset) (f l)) 0) (λ l. l .contracts) 210000000000 ls
+    (all-weaker (λ l. f l ≤ l .contracts) (λ l. cond (p l) (value b (l .asset) (f l)) 0 ≤ l .contracts * 210000000000)
+      (λ l h. let v = value-bound b (l .asset) (f l) s in cond-le (p l) (value b (l .asset) (f l)) (l .contracts * 210000000000) (omega (arith, v, h))) ls a) in
+  omega (arith, e, few)
+
+pub bought-bound : (b : Contents) (f : Line → ℕ) (ls : List Line) (k : ℕ) → Sound b → All (λ l. f l ≤ l .contracts) ls → sumBy (λ l. l .contracts) ls ≤ 1000000 → value-bought b f ls k ≤ 210000000000000000
+bought-bound b f ls k s a few = value-sum b (λ l. eqb (buyer-agent b l) k) f ls s a few
+
+pub sold-bound : (b : Contents) (f : Line → ℕ) (ls : List Line) (k : ℕ) → Sound b → All (λ l. f l ≤ l .contracts) ls → sumBy (λ l. l .contracts) ls ≤ 1000000 → value-sold b f ls k ≤ 210000000000000000
+sold-bound b f ls k s a few = value-sum b (λ l. eqb (seller-agent b l) k) f ls s a few
+
+-- ---- nets and claims
+
+abs-sub : (x y most : ℕ) → x ≤ most → y ≤ most → natAbs (subℕ x y) ≤ most
+abs-sub x y most p q = cond-both (ltb x y) (negsuc (y - suc x)) (pos (x - y)) (λ z. natAbs z ≤ most) (λ e. let h = ltb-true x y e in omega arith) (λ e. omega arith)
+
+abs-pos-mul : (x : ℕ) (z : ℤ) → natAbs (pos x *ℤ z) ≡ x * natAbs z
+abs-pos-mul x (pos n) = ap natAbs (pos-*ℤ-pos x n)
+abs-pos-mul x (negsuc n) = ap natAbs (pos-*ℤ-negsuc x n) ∙ omega (arith, ints)
+
+pub net-bound : (b : Contents) (ls : List Line) (k : ℕ) → Sound b → sumBy (λ l. l .contracts) ls ≤ 1000000 → natAbs (net b ls k) ≤ 210000000000000000
+net-bound b ls k s few =
+  let a = all-same ls in
+  abs-sub (value-sold b (λ l. l .contracts) ls k) (value-bought b (λ l. l .contracts) ls k) 210000000000000000 (sold-bound b (λ l. l .contracts) ls k s a few) (bought-bound b (λ l. l .contracts) ls k s a few)
+  where
+    all-same : (xs : List Line) → All (λ l. l .contracts ≤ l .contracts) xs
+    all-same [] = tt
+    all-same (x ∷ xs) = (omega arith, all-same xs)
+
+differences-bound : (b : Contents) (l : Line) → Sound b → natAbs (differences b l) ≤ l .contracts * 210000000000
+differences-bound b l s =
+  let d = abs-sub (asset-at b (l .asset) .market) (invoice b (l .asset)) 210000000 (market-bound b (l .asset) s) (invoice-bound b (l .asset) s) in
+  let e = abs-pos-mul (unsettled l * b .terms .multiplier) (difference b (l .asset)) in
+  let u : unsettled l ≤ l .contracts = omega arith in
+  let p : unsettled l * b .terms .multiplier * natAbs (difference b (l .asset)) ≤ l .contracts * 1000 * 210000000 = mul-le-mul (mul-le-mul u (s .multiplier .1)) d in
+  let q = mul-assoc (l .contracts) 1000 210000000 in
+  omega (arith, e, p, q)
+
+one-claim : (x y : Bool) (d : ℤ) → natAbs (cond x d (pos 0) -ℤ cond y d (pos 0)) ≤ natAbs d
+one-claim true true d = omega (arith, ints)
+one-claim true false d = omega (arith, ints)
+one-claim false true d = omega (arith, ints)
+one-claim false false d = omega (arith, ints)
+
+abs-sum : (f : Line → ℤ) (ls : List Line) → natAbs (sumℤ f ls) ≤ sumBy (λ l. natAbs (f l)) ls
+abs-sum f [] = omega arith
+abs-sum f (x ∷ xs) = let r = abs-sum f xs in rw (sumBy-cons (λ l. natAbs (f l)) x xs) (omega (arith, ints, r))
+
+all-lines : (P : Line → Type 0) → ((l : Line) → P l) → (ls : List Line) → All P ls
+all-lines P f [] = tt
+all-lines P f (l ∷ ls) = (f l, all-lines P f ls)
+
+pub claim-bound : (b : Contents) (t : Tally) (k : ℕ) → Sound b → sumBy (λ l. l .contracts) (t .closed) ≤ 1000000 → natAbs (claim b t k) ≤ 210000000000000000
+claim-bound b t k s few =
+  let a = abs-sum (claim-on b k) (t .closed) in
+  let e = sum-scaled (λ l. natAbs (claim-on b k l)) (λ l. l .contracts) 210000000000 (t .closed)
+    (all-lines (λ l. natAbs (claim-on b k l) ≤ l .contracts * 210000000000) (λ l. let p = one-claim (eqb (buyer-agent b l) k) (eqb (seller-agent b l) k) (differences b l) in let q = differences-bound b l s in omega (arith, p, q)) (t .closed)) in
+  omega (arith, a, e, few)
+
+-- ---- units
+
+-- the units of the lines that pass, of at most their contracts
+pub units-bound : (b : Contents) (p : Line → Bool) (f : Line → ℕ) (ls : List Line) → Sound b → All (λ l. f l ≤ l .contracts) ls → sumBy (λ l. l .contracts) ls ≤ 1000000
+  → b .terms .multiplier * total p f ls ≤ 1000000000
+units-bound b p f ls s a few =
+  let e = sum-le (λ l. cond (p l) (f l) 0) (λ l. l .contracts) ls (all-weaker (λ l. f l ≤ l .contracts) (λ l. cond (p l) (f l) 0 ≤ l .contracts) (λ l h. cond-le (p l) (f l) (l .contracts) h) ls a) in
+  let t : total p f ls ≤ 1000000 = omega (arith, e, few) in
+  let q : b .terms .multiplier * total p f ls ≤ 1000 * 1000000 = mul-le-mul (s .multiplier .1) t in
+  omega (arith, q)
+
+-- ---- what a lived tally keeps
+pub record Small (o : Opening) (t : Tally) : Type 0 where
+  pub net : (k : ℕ) → natAbs (net (o .book) (t .lines) k) ≤ 210000000000000000
+  pub debit : (k : ℕ) → debit (o .book) (t .lines) k ≤ 210000000000000000
+  pub claim : (k : ℕ) → natAbs (claim (o .book) t k) ≤ 210000000000000000
+  pub bought : (k : ℕ) → value-bought (o .book) (λ l. l .settled) (t .lines) k ≤ 210000000000000000
+  pub sold : (k : ℕ) → value-sold (o .book) (λ l. l .settled) (t .lines) k ≤ 210000000000000000
+  pub gave : (k a : ℕ) → o .book .terms .multiplier * gave (t .lines) k a ≤ 1000000000
+  pub got : (k a : ℕ) → o .book .terms .multiplier * got (t .lines) k a ≤ 1000000000
+  pub in-house : (a : ℕ) → o .book .terms .multiplier * total (of-asset a) inside (t .lines) ≤ 1000000000
+
+pub small : (o : Opening) (t : Tally) → Sound (o .book) → Kept o t → Small o t
+small o t s k =
+  let b : Contents = o .book in
+  let ls : List Line = t .lines in
+  let w : (f : Line → ℕ) → ((l : Line) → Sane b l → f l ≤ l .contracts) → All (λ l. f l ≤ l .contracts) ls = λ f h. all-weaker (Sane b) (λ l. f l ≤ l .contracts) h ls (k .lines) in
+  let settled = w (λ l. l .settled) (λ l v. let u = v .used in let x = v .within in omega arith) in
+  record
+  { net = λ x. net-bound b ls x s (k .few)
+  ; debit = λ x. let q = bought-bound b (λ l. l .contracts) ls x s (w (λ l. l .contracts) (λ l v. omega arith)) (k .few) in omega (arith, q)
+  ; claim = λ x. claim-bound b t x s (k .closed-few)
+  ; bought = λ x. bought-bound b (λ l. l .settled) ls x s settled (k .few)
+  ; sold = λ x. sold-bound b (λ l. l .settled) ls x s settled (k .few)
+  ; gave = λ x a. units-bound b (of-seller x a) (λ l. l .taken - l .returned) ls s (w (λ l. l .taken - l .returned) (λ l v. let x = v .within in omega arith)) (k .few)
+  ; got = λ x a. units-bound b (of-buyer x a) (λ l. l .settled) ls s settled (k .few)
+  ; in-house = λ a. units-bound b (of-asset a) inside ls s (w inside (λ l v. let x = v .within in omega arith)) (k .few)
+  }

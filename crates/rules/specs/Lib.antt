@@ -1,0 +1,4 @@
+pub mod Tally
+pub mod Verdict
+pub mod Histories
+pub mod Law

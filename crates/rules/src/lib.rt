@@ -1,0 +1,15 @@
+// The words of an expiry: its sessions, its calls and their answers.
+ghost use Rattle.rules.specs.Law.{Law-holds};
+pub mod session;
+pub mod side;
+pub mod speaker;
+pub mod call;
+pub mod answer;
+pub mod fault;
+
+// Wherever an expiry stands, after any history, the law holds.
+pub fn law_holds() -> u8
+    ensures law_over_every_history { λ _. ⌜ Law-holds ⌝ }
+{
+    0
+}

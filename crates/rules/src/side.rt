@@ -1,0 +1,6 @@
+// The two registers.
+#[derive(Clone, Copy)]
+pub enum Side {
+    Securities,
+    Cash,
+}
