@@ -30,7 +30,7 @@ use Rattle.pairing.proofs.Theorems.{pairing-laws}
 
 -- ---- the fuelled functions satisfy the relations
 
-open-le : (hs : List Unpaired) → open-count hs ≤ length hs
+pub open-le : (hs : List Unpaired) → open-count hs ≤ length hs
 open-le hs = countBy-le-length (λ h. ltb 0 (h .volume)) hs
 
 pub in-group-holds : (g : Group) (hs : List Unpaired) → In-group g hs (in-group g hs .0) (in-group g hs .1)
@@ -46,7 +46,7 @@ pub in-groups-holds : (gs : List Group) (hs : List Unpaired) → Paired gs hs (i
 in-groups-holds [] hs = over
 in-groups-holds (g ∷ gs) hs = group (in-group-holds g hs) (in-groups-holds gs (in-group g hs .1))
 
-groups-are : all-groups ≡ groups
+pub groups-are : all-groups ≡ groups
 unfolding all-groups stages
 groups-are = refl
 

@@ -3,3 +3,4 @@ pub mod stage;
 pub mod pair;
 pub mod deliverable;
 pub mod line;
+pub mod orders;

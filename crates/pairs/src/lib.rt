@@ -1,0 +1,2 @@
+// Pairs a book by the rule, and writes the lines.
+mod search;
