@@ -1,3 +1,4 @@
 mod Masks
 mod Anys
 mod Continues
+mod WrittenLines

@@ -1,2 +1,4 @@
 // Pairs a book by the rule, and writes the lines.
+mod lines;
+pub mod lots;
 mod search;
