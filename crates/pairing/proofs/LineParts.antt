@@ -16,7 +16,7 @@ use Rattle.pairing.specs.declared.line.Line.{Line}
 use Rattle.book.specs.Books.{Contents, Sound}
 use Rattle.pairing.specs.Pairing.{pairs}
 use Rattle.pairing.specs.Lines.{Lot, lot, left, add-line, fresh, lines-of-pair, lines-of-pairs, lines-of}
-use Rattle.pairing.proofs.LineWords.{Notified}
+use Rattle.pairing.specs.Laws.{Notified}
 use Rattle.pairing.proofs.LineSums.{over-assets}
 use Rattle.pairing.proofs.LineSteps.{In-lots, room, pair-in-lots}
 use Rattle.pairing.proofs.LineRuns.{Enough, covered, covers-rest, assets-rest}

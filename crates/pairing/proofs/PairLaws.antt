@@ -22,7 +22,8 @@ use Rattle.pairing.specs.declared.stage.Group.{Group}
 use Rattle.book.specs.Books.{Contents, Sound, Holder-in-range, holder, nobody, buys, sells, volume}
 use Rattle.book.specs.Books as books
 use Rattle.pairing.specs.Pairing.{no-holder, paired, repeat, in-group, in-groups, equal-pair, first-pair, all-groups, unpaired, pairs}
-use Rattle.pairing.proofs.PairWords.{at, Repeats, In-group, equal-first, Paired, over, group, groups, stages, bought, sold, whole, open-count, Made, Sound-rows, Lawful}
+use Rattle.pairing.specs.InWords.{at, bought, sold}
+use Rattle.pairing.proofs.PairWords.{Repeats, In-group, equal-first, Paired, over, group, groups, stages, whole, open-count, Made, Sound-rows, Lawful}
 use Rattle.pairing.proofs.Runs.{fair-counts, made-length}
 use Rattle.pairing.proofs.Rules.{first-fair, equal-fair, repeats-made}
 use Rattle.pairing.proofs.Unique.{run-repeats}

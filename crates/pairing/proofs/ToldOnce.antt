@@ -19,11 +19,10 @@ use Rattle.book.specs.Books.{Contents, Sound, holder, stands-before}
 use Rattle.order.specs.First.{Total}
 use Rattle.pairing.specs.Orders.{holder-leq, holder-open}
 use Rattle.pairing.specs.Pairing.{no-holder, key, side-in, less, lower, paired, in-groups, all-groups, pairs}
-use Rattle.pairing.proofs.PairWords.{at, bought, sold, Emptied}
+use Rattle.pairing.specs.InWords.{at, bought, sold, Emptied, Stands-first, Largest-equal, First-two, None-equal, Equals, none-equal, equal, Firsts, one-side, first, Told, all-told, told}
 use Rattle.pairing.proofs.Steps.{lower-keeps}
 use Rattle.pairing.proofs.HolderOrder.{holder-order}
-use Rattle.pairing.proofs.Choice.{Stands-first, Largest-equal, First-two, None-equal}
-use Rattle.pairing.proofs.Told.{Equals, none-equal, equal, Firsts, one-side, first, Told, all-told, told, book-told}
+use Rattle.pairing.proofs.Told.{book-told}
 use Rattle.pairing.proofs.PairLaws.{rows, rows-length, row-is}
 
 -- No two places have the same member and number.

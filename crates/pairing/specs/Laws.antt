@@ -6,13 +6,13 @@ use mathlib.Core.List.{List, [], _∷_}
 use lib.Dec.{eqb}
 use lib.IntN.{ℤ, subℕ}
 use lib.ListN.{length}
-use Rattle.std.specs.shelf.Lists.{All}
+use Rattle.std.specs.shelf.Lists.{All, sumBy}
 use Rattle.order.specs.First.{any}
-use Rattle.book.specs.Books.{Contents, holder, buys, sells}
+use Rattle.book.specs.Books.{Contents, holder, buys, sells, volume}
 use Rattle.pairing.specs.declared.stage.Stage.{Stage}
 use Rattle.pairing.specs.declared.line.Line.{Line}
 use Rattle.pairing.specs.Pairing.{key, unpaired}
-use Rattle.pairing.specs.Lines.{total}
+use Rattle.pairing.specs.Lines.{Lot, lot, total, of-seller}
 
 -- What the lines of a row add up to: bought contracts count plus, sold ones minus.
 abbrev pub position-on : List Line → ℕ → ℤ
@@ -42,3 +42,15 @@ pub record Well-paired (b : Contents) (ls : List Line) : Type 0 where
   pub fewer : different-pairs ls < length (b .holders)
   -- Every other pairing has at most as many contracts within each member, clearing member and agent.
   pub nearest : (other : List Line) → Pairing b other → (stage : Stage) (number : ℕ) → within b stage number other ≤ within b stage number ls
+
+-- ---- lots
+
+-- Each seller's lots add up to its volume, and lots name assets of the book only.
+pub record Notified (b : Contents) (lots : List Lot) : Type 0 where
+  pub assets : All (λ x. x .asset < length (b .assets)) lots
+  pub whole : (row : ℕ) → sells (holder b row) ≡ true → sumBy (λ x. cond (eqb (x .row) row) (x .contracts) 0) lots ≡ volume (holder b row)
+
+-- Each seller's lines of an asset add up to its lot.
+abbrev pub Lots-used : Contents → List Lot → List Line → Type 0
+Lots-used b lots ls = (row : ℕ) → sells (holder b row) ≡ true → (a : ℕ) → a < length (b .assets)
+  → total (of-seller row a) (λ l. l .contracts) ls ≡ lot lots row a

@@ -22,7 +22,8 @@ use Rattle.pairing.specs.declared.stage.Stage.the-variants.{Member, Clearing, A
 use Rattle.pairing.specs.Orders.{holder-leq}
 use Rattle.pairing.specs.Pairing.{key, side-in, pair-of, no-holder, less, lower, paired, equal-pair, first-pair, Made, then-on, repeat, and-then, in-group, in-groups, numbered}
 use Rattle.pairing.proofs.Unique.{run-repeats}
-use Rattle.pairing.proofs.PairWords.{at, open-count, Fair, stages}
+use Rattle.pairing.specs.InWords.{at}
+use Rattle.pairing.proofs.PairWords.{open-count, Fair, stages}
 use Rattle.pairing.proofs.PairLaws.{open-le}
 use Rattle.pairing.proofs.Steps as step
 use Rattle.pairing.proofs.Runs.{fair-counts, made-length}

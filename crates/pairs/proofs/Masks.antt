@@ -18,7 +18,7 @@ use Rattle.pairing.specs.declared.pair.Pair.{Pair}
 use Rattle.pairing.specs.declared.stage.Stage.{Stage}
 use Rattle.pairing.specs.Orders.{holder-leq, holder-open}
 use Rattle.pairing.specs.Pairing.{key, no-holder, side-in, on-side, pair-of}
-use Rattle.pairing.proofs.PairWords.{at}
+use Rattle.pairing.specs.InWords.{at}
 use Rattle.pairs.specs.Search.{passes, masked}
 use Rattle.order.proofs.FirstIs.{first-is, none-passes, first-some}
 

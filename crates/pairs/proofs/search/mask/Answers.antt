@@ -6,7 +6,7 @@ use native.Mathlib.Omega.{arith}
 use Rattle.std.proofs.shelf.Lists.{take-more-set, map-more, take-all}
 use Rattle.pairing.specs.declared.pair.Unpaired.{Unpaired}
 use Rattle.pairing.specs.Pairing.{no-holder}
-use Rattle.pairing.proofs.PairWords.{at}
+use Rattle.pairing.specs.InWords.{at}
 use Rattle.pairs.specs.Search.{passes, masked}
 use Rattle.pairs.proofs.search.mask.Needs as need
 
