@@ -1,4 +1,5 @@
 mod Masks
+mod AllPairs
 mod Anys
 mod Continues
 mod WrittenLines
