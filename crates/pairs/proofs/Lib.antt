@@ -1,3 +1,4 @@
+mod HandedLots
 mod Masks
 mod AllPairs
 mod Anys
