@@ -12,6 +12,7 @@ pub mod LineSteps
 pub mod LineNames
 pub mod LineRuns
 pub mod LineWords
+pub mod LinesAgree
 pub mod LineLaws
 pub mod LineNear
 pub mod LineParts

@@ -61,7 +61,7 @@ own-asset r a lots from (suc n) low high =
       omega (arith, c, z, ih))
     (cases-eq from a)
 
-earlier-row : (n row a from : ℕ) (xs : List SellerLots) → row < from → lot (lots-from n from xs) row a ≡ 0
+pub earlier-row : (n row a from : ℕ) (xs : List SellerLots) → row < from → lot (lots-from n from xs) row a ≡ 0
 earlier-row n row a from [] h = refl
 earlier-row n row a from (x ∷ xs) h =
   let s = sumBy-append (part row a) (row-lots from (x .lots) 0 n) (lots-from n (from + 1) xs) in
