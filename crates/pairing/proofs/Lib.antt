@@ -25,3 +25,4 @@ pub mod Told
 pub mod ToldOnce
 pub mod FarLots
 pub mod SoundSample
+pub mod WorkedCases

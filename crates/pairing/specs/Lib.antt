@@ -3,3 +3,4 @@ pub mod Pairing
 pub mod Lines
 pub mod Laws
 pub mod InWords
+pub mod Cases
