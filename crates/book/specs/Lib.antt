@@ -1,1 +1,3 @@
 pub mod Books
+pub mod Lawful
+pub mod Data

@@ -1,2 +1,3 @@
 // The book of one expiry: its records, the book itself with what every book keeps, its file, its look-up and its prices.
 pub mod records;
+pub mod book;

@@ -82,3 +82,8 @@ pub data Told : List Group → List Unpaired → List Pair → List Unpaired →
 -- The rule's words tell these pairs of a book, and they leave these holders.
 abbrev pub Told-of : Contents → List Pair → List Unpaired → Type 0
 Told-of b ps left = Told all-groups (map unpaired (b .holders)) ps left
+
+-- The pairs of a book are those that the rule's words tell, and these tell no others.
+pub record As-told (b : Contents) (ps : List Pair) : Type 0 where
+  pub told : (left : List Unpaired) × Told-of b ps left
+  pub only : (other : List Pair) (left : List Unpaired) → Told-of b other left → other ≡ ps

@@ -2,5 +2,7 @@ mod HandedLots
 mod Masks
 mod AllPairs
 mod Anys
+mod BookBounds
 mod Continues
+mod Outcomes
 mod WrittenLines

@@ -1,6 +1,8 @@
 // Pairs a book by the rule, and writes the lines.
+pub mod fault;
+pub mod lots;
 mod handing;
 mod lines;
-pub mod lots;
 mod rows;
 mod search;
+pub mod book;
