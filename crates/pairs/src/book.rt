@@ -30,6 +30,21 @@ fn pair_book(book: &Book, lots: &[SellerLots], lines: &mut [Line]) -> Result<usi
     Ok(lines_of_rows(holders, book.assets().len() as u8, lots, lines))
 }
 
+// The same, with what the rule's laws say of the lines.
+fn pair_by_law(book: &Book, lots: &[SellerLots], lines: &mut [Line]) -> Result<usize, PairingFault>
+    ensures answers_the_count { λ r. ⌜ r ≡ pair-answer (contents (now (book .entry))) (lots-in (contents (now (book .entry))) (now (lots .entry))) (now (lines .entry)) ⌝ }
+    ensures lines_as_defined { λ _. ⌜ now (lines .exit) ≡ pair-leaves (contents (now (book .entry))) (lots-in (contents (now (book .entry))) (now (lots .entry))) (now (lines .entry)) ⌝ }
+    ensures pairs_as_told { λ _. ⌜ (Sound (contents (now (book .entry))) → As-told (contents (now (book .entry))) (pairs (contents (now (book .entry))))) ⌝ }
+    ensures lines_are_parts_of_pairs { λ r. ⌜ Of-lines r (now (lines .exit)) (λ ls. Sound (contents (now (book .entry))) → Notified (contents (now (book .entry))) (lots-in (contents (now (book .entry))) (now (lots .entry))) → Parts (pairs (contents (now (book .entry)))) ls) ⌝ }
+    ensures positions_are_met { λ r. ⌜ Of-lines r (now (lines .exit)) (λ ls. Sound (contents (now (book .entry))) → Notified (contents (now (book .entry))) (lots-in (contents (now (book .entry))) (now (lots .entry))) → Pairing (contents (now (book .entry))) ls) ⌝ }
+    ensures lots_are_used_up { λ r. ⌜ Of-lines r (now (lines .exit)) (λ ls. Sound (contents (now (book .entry))) → Notified (contents (now (book .entry))) (lots-in (contents (now (book .entry))) (now (lots .entry))) → Lots-used (contents (now (book .entry))) (lots-in (contents (now (book .entry))) (now (lots .entry))) ls) ⌝ }
+    ensures fewer_pairs_than_holders { λ r. ⌜ Of-lines r (now (lines .exit)) (λ ls. Sound (contents (now (book .entry))) → different-pairs ls < length (contents (now (book .entry)) .holders)) ⌝ }
+    ensures most_contracts_near { λ r. ⌜ Of-lines r (now (lines .exit)) (λ ls. Sound (contents (now (book .entry))) → Notified (contents (now (book .entry))) (lots-in (contents (now (book .entry))) (now (lots .entry))) → Nearest (contents (now (book .entry))) ls) ⌝ }
+    ensures four_lines_a_holder { λ r. ⌜ Of-lines r (now (lines .exit)) (λ ls. length ls ≤ places-a-holder * length (contents (now (book .entry)) .holders)) ⌝ }
+{
+    pair_book(book, lots, lines)
+}
+
 // Pairs the book with the sellers' lots and writes its lines into the first places of the table, or refuses a table that
 // is too small. It asks for no memory. The laws hold where each seller's lots add up to its position.
 pub fn pair(book: &Book, lots: &[SellerLots], lines: &mut [Line]) -> Result<usize, PairingFault>
@@ -43,5 +58,5 @@ pub fn pair(book: &Book, lots: &[SellerLots], lines: &mut [Line]) -> Result<usiz
     ensures most_contracts_near { λ r. ⌜ Of-lines r (now (lines .exit)) (λ ls. Sound (contents (now (book .entry))) → Notified (contents (now (book .entry))) (lots-in (contents (now (book .entry))) (now (lots .entry))) → Nearest (contents (now (book .entry))) ls) ⌝ }
     ensures four_lines_a_holder { λ r. ⌜ Of-lines r (now (lines .exit)) (λ ls. length ls ≤ places-a-holder * length (contents (now (book .entry)) .holders)) ⌝ }
 {
-    pair_book(book, lots, lines)
+    pair_by_law(book, lots, lines)
 }

@@ -146,6 +146,26 @@ fn repeat_pairs(holders: &mut [Unpaired], standing: &mut [Unpaired], group: Grou
     count
 }
 
+// While some volume stands on both sides of the group: the first buyer and the first seller of the largest such volume.
+fn pair_equals(holders: &mut [Unpaired], standing: &mut [Unpaired], group: Group, pairs: &mut [Pair], made: usize) -> usize
+    requires scratch { ⌜ length (now standing) ≡ length (now holders) ⌝ }
+    requires room { ⌜ made + open-count (now holders) ≤ length (now pairs) ⌝ }
+    ensures by_the_rule { λ r. ⌜ so-far (now (pairs .exit)) r (now (holders .exit)) ≡ and-then (so-far (now (pairs .entry)) made (now (holders .entry))) (exhaust (next-pair true group)) ⌝ }
+    ensures room { λ r. ⌜ r + open-count (now (holders .exit)) ≤ length (now (pairs .entry)) ⌝ }
+{
+    repeat_pairs(holders, standing, group, true, pairs, made)
+}
+
+// While both sides of the group have volume: the first buyer and the first seller.
+fn pair_firsts(holders: &mut [Unpaired], standing: &mut [Unpaired], group: Group, pairs: &mut [Pair], made: usize) -> usize
+    requires scratch { ⌜ length (now standing) ≡ length (now holders) ⌝ }
+    requires room { ⌜ made + open-count (now holders) ≤ length (now pairs) ⌝ }
+    ensures by_the_rule { λ r. ⌜ so-far (now (pairs .exit)) r (now (holders .exit)) ≡ and-then (so-far (now (pairs .entry)) made (now (holders .entry))) (exhaust (next-pair false group)) ⌝ }
+    ensures room { λ r. ⌜ r + open-count (now (holders .exit)) ≤ length (now (pairs .entry)) ⌝ }
+{
+    repeat_pairs(holders, standing, group, false, pairs, made)
+}
+
 // The pairs of one group: equal volumes first, and then first buyer with first seller. Most numbers have no holder.
 fn pair_group(holders: &mut [Unpaired], standing: &mut [Unpaired], group: Group, pairs: &mut [Pair], made: usize) -> usize
     requires scratch { ⌜ length (now standing) ≡ length (now holders) ⌝ }
@@ -156,12 +176,21 @@ fn pair_group(holders: &mut [Unpaired], standing: &mut [Unpaired], group: Group,
     if !has_group(holders, group) {
         return made;
     }
-    let count = repeat_pairs(holders, standing, group, true, pairs, made);
-    repeat_pairs(holders, standing, group, false, pairs, count)
+    let count = pair_equals(holders, standing, group, pairs, made);
+    pair_firsts(holders, standing, group, pairs, count)
+}
+
+// The group of a stage that comes after k others.
+fn group_after(stage: Stage, k: u16) -> Group
+    requires { ⌜ k < 999 ⌝ }
+    ensures { λ r. ⌜ r ≡ record { stage = stage; number = k + 1 } ⌝ }
+{
+    Group { stage, number: k + 1 }
 }
 
 // The groups of a stage in ascending number, up to the highest.
 fn pair_stage(holders: &mut [Unpaired], standing: &mut [Unpaired], stage: Stage, highest: u16, pairs: &mut [Pair], made: usize) -> usize
+    requires few { ⌜ highest ≤ 999 ⌝ }
     requires scratch { ⌜ length (now standing) ≡ length (now holders) ⌝ }
     requires room { ⌜ made + open-count (now holders) ≤ length (now pairs) ⌝ }
     ensures by_the_rule { λ r. ⌜ so-far (now (pairs .exit)) r (now (holders .exit)) ≡ and-then (so-far (now (pairs .entry)) made (now (holders .entry))) (in-groups (numbered stage 1 highest)) ⌝ }
@@ -169,7 +198,7 @@ fn pair_stage(holders: &mut [Unpaired], standing: &mut [Unpaired], stage: Stage,
 {
     let mut count = made;
     for k in 0..highest {
-        count = pair_group(holders, standing, Group { stage, number: k + 1 }, pairs, count);
+        count = pair_group(holders, standing, group_after(stage, k), pairs, count);
     }
     count
 }

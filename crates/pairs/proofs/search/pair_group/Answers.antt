@@ -11,10 +11,10 @@ pub returns : need.returns
 returns c =
   let g = c .args .group in
   record
-    { by-the-rule = c .repeat-pairs .ensures .by-the-rule
-        ∙ ap (λ (m : Made). and-then m (exhaust (next-pair false g))) (c .repeat-pairs-count .ensures .by-the-rule)
+    { by-the-rule = c .pair-firsts .ensures .by-the-rule
+        ∙ ap (λ (m : Made). and-then m (exhaust (next-pair false g))) (c .pair-equals-count .ensures .by-the-rule)
         ∙ group-then g (so-far (c .args .pairs .now) (c .args .made) (c .args .holders .now))
-    ; room = omega (arith, c .repeat-pairs .ensures .room) }
+    ; room = omega (arith, c .pair-firsts .ensures .room) }
 
 pub returns-then-not-has-group : need.returns-then-not-has-group
 returns-then-not-has-group c =

@@ -15,7 +15,7 @@ use Rattle.pairs.specs.Records.{lots-in}
 use Rattle.pairs.specs.Outcome.{Of-lines}
 use Rattle.pairs.proofs.BookBounds.{few-assets}
 use Rattle.pairs.proofs.Outcomes.{of-lines, few-lines, names-fewer}
-use Rattle.pairs.proofs.book.pair.Needs as need
+use Rattle.pairs.proofs.book.pair_by_law.Needs as need
 
 pub returns : need.returns
 returns c =
