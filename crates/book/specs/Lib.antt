@@ -1,1 +1,8 @@
+pub mod Limits
 pub mod Books
+pub mod Lawful
+pub mod Format
+pub mod Refusals
+pub mod Reading
+pub mod Data
+pub mod Laws

@@ -122,9 +122,6 @@ row-ok bs fs vs k n e o z =
     ap (ranged bs) (p .1) ∙ cond-true (eqb (outside 2 bs (p .0)) 0) _ _ (eq-eqb (outside 2 bs (p .0)) 0 w)
     ∙ ap Ok (sym (p .2 ∙ held-near (p .0) (near-all 2 bs (p .0) (read-length 2 fs (p .0) (p .1) ∙ n) (omega arith) w)))
 
-pub row-refused : (bs : List Bound) (fs : List (List ℕ)) (e : RowFault) → held-all (read 2 fs) ≡ Err e → ranged bs (read 2 fs) ≡ Err e
-row-refused bs fs e h = ap (ranged bs) (held-err (read 2 fs) e h)
-
 -- ---- what is known of an accepted row
 
 cond-ok : (v : Bool) (r : Result (List ℤ) RowFault) (f : RowFault) (zs : List ℤ) → cond v r (Err f) ≡ Ok zs → (v ≡ true) × (r ≡ Ok zs)
@@ -153,3 +150,30 @@ row-accepted kind bs (f ∷ fs) zs e =
     let r = cond-ok (eqb (length fs) (length bs)) _ _ zs (p .1) in
     let q = ranged-ok bs (read 2 fs) zs (r .1) in
     record { rest = fs; fields-are = ap (λ t. t ∷ fs) (sameBytes-decides f kind .0 (p .0)); long = read-length 2 fs zs (q .0) ∙ eqb-true _ _ (r .0); reads = q .0; allowed = q .1 }
+
+-- ---- each number in its bound
+
+-- what a number within a bound has
+pub record Within (b : Bound) (z : ℤ) : Type 0 where
+  pub close : near z ≡ true
+  pub above : leZ (b .low) z ≡ true
+  pub under : leZ z (b .high) ≡ true
+  pub may-be-0 : (b .zero || not (isZero z)) ≡ true
+
+pub within : (b : Bound) (z : ℤ) → inside b z ≡ true → Within b z
+within b z h =
+    let p = and-parts (near z) ((leZ (b .low) z && leZ z (b .high)) && (b .zero || not (isZero z))) h in
+    let q = and-parts (leZ (b .low) z && leZ z (b .high)) (b .zero || not (isZero z)) (p .1) in
+    let r = and-parts (leZ (b .low) z) (leZ z (b .high)) (q .0) in
+    record { close = p .0; above = r .0; under = r .1; may-be-0 = q .1 }
+
+-- each number is within its bound
+abbrev pub Each : List Bound → List ℤ → Type 0
+Each [] zs = Unit {0}
+Each (b ∷ bs) [] = Unit {0}
+Each (b ∷ bs) (z ∷ zs) = Within b z × Each bs zs
+
+pub each : (k : ℕ) (bs : List Bound) (zs : List ℤ) → 0 < k → outside k bs zs ≡ 0 → Each bs zs
+each k [] zs p e = tt
+each k (b ∷ bs) [] p e = tt
+each k (b ∷ bs) (z ∷ zs) p e = let c = cond-zero (inside b z) (outside (suc k) bs zs) k p e in (within b z (c .0), each (suc k) bs zs (omega arith) (c .1))

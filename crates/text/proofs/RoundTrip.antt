@@ -7,7 +7,7 @@ use native.Mathlib.Omega.{arith}
 use lib.Dec.{eqb}
 use lib.IntN.{ℤ, pos, negsuc}
 use lib.Signed.{mag}
-use lib.ListN.{length, getD}
+use lib.ListN.{length, getD, take, drop}
 use borrow.Author.Tests.{leb-true, eq-eqb}
 use Rattle.std.specs.shelf.Lists.{joined}
 use Rattle.std.specs.shelf.Text.{sameBytes}
@@ -23,10 +23,10 @@ use Rattle.std.specs.declared.result.Result.{Result}
 use Rattle.std.specs.declared.result.Result.the-variants.{Ok, Err}
 use Rattle.text.specs.declared.row.RowFault.{RowFault}
 use Rattle.text.specs.declared.row.Bound.{Bound}
-use Rattle.text.specs.Parts.{parts, fields, together}
+use Rattle.text.specs.Parts.{stop, parts, later, fields, together}
 use Rattle.text.specs.Number.{number, near, most}
 use Rattle.text.specs.Rows.{read, then, row, ranged, outside, line}
-use Rattle.text.proofs.PartsAt.{together-parts, Free, free-from, free-append, parts-free, parts-join}
+use Rattle.text.proofs.PartsAt.{parts-step, together-parts, Free, free-from, free-append, parts-free, parts-join}
 use Rattle.text.proofs.NumberForms.{own, number-signed, number-reads}
 use Rattle.text.proofs.Ranges.{Near, near-all, Accepted, row-accepted, row-same}
 
@@ -103,3 +103,8 @@ line-parts kind bs zs t f g =
 
 pub line-fields : (kind : List ℕ) (bs : List Bound) (zs : List ℤ) → Free 44 kind → Good bs zs → fields (body kind zs) ≡ kind ∷ map signed zs
 line-fields kind bs zs k g = fields-together kind zs k (near-all 2 bs zs (g .0) (omega arith) (g .1))
+
+pub line-kind : (kind : List ℕ) (bs : List Bound) (zs : List ℤ) → Free 44 kind → Good bs zs → take (stop 44 (body kind zs)) (body kind zs) ≡ kind
+line-kind kind bs zs k g =
+    let e : take (stop 44 (body kind zs)) (body kind zs) ∷ later 44 (drop (stop 44 (body kind zs)) (body kind zs)) ≡ kind ∷ map signed zs = sym (parts-step 44 (body kind zs)) ∙ line-fields kind bs zs k g in
+    cc

@@ -17,7 +17,9 @@ use Rattle.std.specs.declared.result.Result.the-variants.{Ok, Err}
 use Rattle.std.specs.declared.vec.Vec.{Vec}
 use Rattle.std.specs.declared.alloc.Global.{Global}
 use Rattle.text.specs.declared.row.RowFault.{RowFault}
-use Rattle.text.specs.declared.row.RowFault.the-variants.{Form, Range, Memory}
+use Rattle.text.specs.declared.row.RowFault.the-variants.{Form}
+use Rattle.text.specs.declared.row.RowError.{RowError}
+use Rattle.text.specs.declared.row.RowError.the-variants.{Refused, NoMemory}
 use Rattle.text.specs.declared.row.Bound.{Bound}
 use Rattle.text.specs.Parts.{stop, fields, later}
 use Rattle.text.specs.Rows.{row, ranged, read, held-all, Answers}
@@ -55,7 +57,6 @@ pub row-on : (kind : List ℕ) (bs : List Bound) (s f m : List ℕ) (n : ℕ) �
 row-on kind bs s f m n c k e d = ap (row kind bs) (fields-cut s f m c) ∙ row-same kind bs f (later 44 m) k (row-fields bs s f m n c e d)
 
 -- a refusal of the numbers is one of the line
-pub refused-on : (bs : List Bound) (r : Result (Vec ℤ Global) RowFault) (e : RowFault) (s t : Result (List ℤ) RowFault) → r ≡ Err e → Answers (Err e) (held-all s) → t ≡ ranged bs s → Answers r t
-refused-on bs r (Form k) s t p a q = subst (λ x. Answers x t) (sym p) (q ∙ ap (ranged bs) (held-err s (Form k) a))
-refused-on bs r (Range k) s t p a q = subst (λ x. Answers x t) (sym p) (q ∙ ap (ranged bs) (held-err s (Range k) a))
-refused-on bs r Memory s t p a q = subst (λ x. Answers x t) (sym p) tt
+pub refused-on : (bs : List Bound) (r : Result (Vec ℤ Global) RowError) (e : RowError) (s t : Result (List ℤ) RowFault) → r ≡ Err e → Answers (Err e) (held-all s) → t ≡ ranged bs s → Answers r t
+refused-on bs r (Refused f) s t p a q = subst (λ x. Answers x t) (sym p) (q ∙ ap (ranged bs) (held-err s f a))
+refused-on bs r NoMemory s t p a q = subst (λ x. Answers x t) (sym p) tt

@@ -18,7 +18,9 @@ use Rattle.std.specs.declared.vec.Vec.{Vec}
 use Rattle.std.specs.declared.alloc.Global.{Global}
 use Rattle.text.specs.declared.row.Bound.{Bound}
 use Rattle.text.specs.declared.row.RowFault.{RowFault}
-use Rattle.text.specs.declared.row.RowFault.the-variants.{Form, Range, Memory}
+use Rattle.text.specs.declared.row.RowFault.the-variants.{Form, Range}
+use Rattle.text.specs.declared.row.RowError.{RowError}
+use Rattle.text.specs.declared.row.RowError.the-variants.{Refused, NoMemory}
 use Rattle.text.specs.Number.{number, held, near}
 use Rattle.text.specs.Parts.{together}
 
@@ -68,13 +70,8 @@ abbrev pub held-all : Result (List ℤ) RowFault → Result (List ℤ) RowFault
 held-all (Ok zs) = Ok (map held zs)
 held-all (Err e) = Err e
 
--- the call gives what s says, by the numbers of its value, unless it found no memory
-abbrev pub Gives : {T : Type 0} → (T → List ℤ) → Result T RowFault → Result (List ℤ) RowFault → Type 0
-Gives values (Ok x) s = s ≡ Ok (values x)
-Gives values (Err (Form k)) s = s ≡ Err (Form k)
-Gives values (Err (Range k)) s = s ≡ Err (Range k)
-Gives values (Err Memory) s = Unit {0}
-
--- the same of a call that gives the numbers themselves
-abbrev pub Answers : Result (Vec ℤ Global) RowFault → Result (List ℤ) RowFault → Type 0
-Answers r s = Gives vec-items r s
+-- the call gives what s says, unless it found no memory
+abbrev pub Answers : Result (Vec ℤ Global) RowError → Result (List ℤ) RowFault → Type 0
+Answers (Ok v) s = s ≡ Ok (vec-items v)
+Answers (Err (Refused e)) s = s ≡ Err e
+Answers (Err NoMemory) s = Unit {0}

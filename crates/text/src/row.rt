@@ -2,14 +2,13 @@
 ghost use mathlib.Core.Path.{_≡_};
 ghost use Prim.Native.Nat.{ℕ};
 ghost use lib.ListN.{length};
-ghost use Rattle.text.specs.declared.row.RowFault.the-variants.{Memory};
+ghost use Rattle.text.specs.declared.row.RowError.the-variants.{NoMemory};
 ghost use Rattle.text.specs.Number.{near};
 ghost use Rattle.text.specs.Parts.{fields, later};
-ghost use Rattle.text.specs.Rows.{read, held-all, outside as outsideOf, inside, Gives, Answers, row as rowOf};
+ghost use Rattle.text.specs.Rows.{read, held-all, outside as outsideOf, inside, Answers, row as rowOf};
 use crate::cut::separators;
 use crate::cut::step;
 use crate::number::number;
-use std::alloc::AllocError;
 use std::alloc::Global;
 use std::alloc::Refused;
 
@@ -40,32 +39,30 @@ impl Bound {
     }
 }
 
-// Why a line is refused: its form or its range, with the field's place from 1 (0 for a wrong count), or want of memory.
+// Why a line is refused: its form or its range, with the field's place from 1 (0 for a wrong count).
 #[derive(Clone, Copy)]
 pub enum RowFault {
     Form(usize),
     Range(usize),
-    Memory,
 }
 
-impl From<AllocError> for RowFault as RowFaultFromAlloc {
-    ghost converts = { λ _ r. r ≡ Memory };
-
-    fn from(_e: AllocError) -> RowFault {
-        RowFault::Memory
-    }
+// Why a line gives no numbers: it is refused, or there is no memory.
+#[derive(Clone, Copy)]
+pub enum RowError {
+    Refused(RowFault),
+    NoMemory,
 }
 
-impl<T: Drop> From<Refused<T>> for RowFault as RowFaultFromRefused {
-    ghost converts = { λ _ r. r ≡ Memory };
+impl<T: Drop> From<Refused<T>> for RowError as RowErrorFromRefused {
+    ghost converts = { λ _ r. r ≡ NoMemory };
 
-    fn from(_e: Refused<T>) -> RowFault {
-        RowFault::Memory
+    fn from(_e: Refused<T>) -> RowError {
+        RowError::NoMemory
     }
 }
 
 // The numbers of the fields of `line` after its first comma, where it begins.
-fn numbers(heap: Global, line: &[u8]) -> Result<Vec<i64>, RowFault>
+fn numbers(heap: Global, line: &[u8]) -> Result<Vec<i64>, RowError>
     ensures each_by_its_form { λ r. ⌜ Answers r (held-all (read 2 (later 44 (now (line .entry))))) ⌝ }
 {
     let mut found = Vec::new(heap);
@@ -75,7 +72,7 @@ fn numbers(heap: Global, line: &[u8]) -> Result<Vec<i64>, RowFault>
         let (field, more) = step(&rest[1..], b',');
         match number(field) {
             Some(n) => found.push(n)?,
-            None => return Err(RowFault::Form(place)),
+            None => return Err(RowError::Refused(RowFault::Form(place))),
         }
         rest = more;
         place += 1;
@@ -97,27 +94,27 @@ fn outside(bounds: &[Bound], values: &[i64]) -> usize
 }
 
 // The numbers of a line, as the public function below says.
-fn numbers_of_row(heap: Global, line: &[u8], kind: &[u8], bounds: &[Bound]) -> Result<Vec<i64>, RowFault>
+fn numbers_of_row(heap: Global, line: &[u8], kind: &[u8], bounds: &[Bound]) -> Result<Vec<i64>, RowError>
     ensures reads_the_row { λ r. ⌜ Answers r (rowOf (now (kind .entry)) (now (bounds .entry)) (fields (now (line .entry)))) ⌝ }
 {
     let (first, more) = step(line, b',');
     if first != kind {
-        return Err(RowFault::Form(1));
+        return Err(RowError::Refused(RowFault::Form(1)));
     }
     if separators(line, b',') != bounds.len() {
-        return Err(RowFault::Form(0));
+        return Err(RowError::Refused(RowFault::Form(0)));
     }
     let values = numbers(heap, more)?;
     let place = outside(bounds, values.as_slice());
     if place != 0 {
-        return Err(RowFault::Range(place));
+        return Err(RowError::Refused(RowFault::Range(place)));
     }
     Ok(values)
 }
 
 // The numbers of a line of this kind, one for each bound: the kind is tried first, then the count of fields,
 // then each number's form, then each number's range.
-pub fn read_row(heap: Global, line: &[u8], kind: &[u8], bounds: &[Bound]) -> Result<Vec<i64>, RowFault>
+pub fn read_row(heap: Global, line: &[u8], kind: &[u8], bounds: &[Bound]) -> Result<Vec<i64>, RowError>
     ensures reads_the_row { λ r. ⌜ Answers r (rowOf (now (kind .entry)) (now (bounds .entry)) (fields (now (line .entry)))) ⌝ }
 {
     numbers_of_row(heap, line, kind, bounds)
