@@ -4,3 +4,12 @@ pub mod ReaderTurns
 pub mod Inversions
 pub mod DraftText
 pub mod FileOfBook
+pub mod TextReads
+pub mod SoundLawful
+pub mod TextLength
+pub mod OneFile
+pub mod ReadsEmpty
+pub mod BookKept
+pub mod PageOfBook
+pub mod WriteWays
+pub mod RowOf

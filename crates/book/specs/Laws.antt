@@ -3,11 +3,25 @@ use mathlib.Core.Path.{_≡_}
 use mathlib.Core.List.{List}
 use Prim.Native.Nat.{ℕ, _≤_}
 use lib.ListN.{length}
-use Rattle.std.specs.declared.result.Result.the-variants.{Ok}
+use mathlib.Core.Logic.{_⊎_}
+use Rattle.std.specs.declared.result.Result.{Result}
+use Rattle.std.specs.declared.result.Result.the-variants.{Ok, Err}
+use Rattle.book.specs.declared.fault.ReadFault.{ReadFault}
+use Rattle.book.specs.declared.fault.ReadFault.the-variants.{NoMemory}
 use Rattle.text.specs.Pages.{most-bytes}
 use Rattle.book.specs.Books.{Contents, Sound}
 use Rattle.book.specs.Format.{text}
 use Rattle.book.specs.Reading.{reading}
+
+-- ---- of one reading: r is its answer, and now the book afterwards
+
+-- An accepted file is the text of the book that it gives, which exists; and the text of a book that exists is never
+-- refused and gives that book (short of memory).
+pub record Accepts-exactly-texts (r : Result (Unit {0}) ReadFault) (file : List ℕ) (now : Contents) : Type 0 where
+  pub only-texts : r ≡ Ok tt → Sound now × (file ≡ text now)
+  pub every-text : (b : Contents) → Sound b → file ≡ text b → ((r ≡ Ok tt) × (now ≡ b)) ⊎ (r ≡ Err NoMemory)
+
+-- ---- of all files and books
 
 -- A file is accepted exactly when it is the text of a book that exists, and gives that book.
 abbrev pub Accepted-files-are-texts : Type 0

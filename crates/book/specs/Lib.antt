@@ -6,3 +6,5 @@ pub mod Refusals
 pub mod Reading
 pub mod Data
 pub mod Laws
+pub mod Lookup
+pub mod Cases

@@ -6,7 +6,8 @@ use native.Mathlib.Numerals.{add-one}
 use native.Mathlib.Omega.{arith}
 use lib.ListN.{length, take, set, length-append, length-take}
 use Rattle.std.proofs.shelf.Lists.{append-nil}
-use Rattle.text.specs.Pages.{most-bytes}
+use Rattle.text.specs.Pages.{most-bytes, written}
+use Rattle.text.specs.declared.page.Page.{Page}
 use lib.Seq.{take-all, take-suc-set, take-append-le}
 
 -- what was left out is left out of what follows too
@@ -32,7 +33,7 @@ take-full m n xs b h k =
     all ∙ sym (take-all m xs (omega arith)) ∙ sym (take-append-le m xs (b ∷ []) (omega arith)) ∙ ap (λ t. take m (t ++ b ∷ [])) (sym all)
 
 -- what a page holds is not cut
-pub take-short : (n : ℕ) (xs : List ℕ) → n ≤ most-bytes → take n xs ≡ take most-bytes (take n xs ++ [])
-take-short n xs h =
-    let short : length (take n xs) ≤ most-bytes = omega (arith, length-take n xs) in
-    sym (ap (take most-bytes) (append-nil (take n xs)) ∙ take-all most-bytes (take n xs) short)
+pub page-whole : (p : Page) → written p ≡ take most-bytes (written p ++ [])
+page-whole p =
+    let short : length (written p) ≤ most-bytes = omega (arith, length-take (p .len) (p .bytes), p .within) in
+    sym (ap (take most-bytes) (append-nil (written p)) ∙ take-all most-bytes (written p) short)

@@ -5,11 +5,11 @@ use lib.ListN.{take, getD}
 use lib.Seq.{take-all}
 use Rattle.std.proofs.shelf.Lists.{take-more}
 use Rattle.text.specs.Pages.{most-bytes, written}
-use Rattle.text.proofs.Taken.{take-twice, take-short}
+use Rattle.text.proofs.Taken.{take-twice, page-whole}
 use Rattle.text.proofs.page.Page.push_all.Needs as need
 
 pub loop-b-holds : need.loop-b-holds
-loop-b-holds c = take-short (c .args .self .now .len) (c .args .self .now .bytes) (c .args .self .now .within)
+loop-b-holds c = page-whole (c .args .self .now)
 
 pub loop-b-again : need.loop-b-again
 loop-b-again c =

@@ -13,7 +13,7 @@ use Rattle.std.specs.Written.{signed}
 use Rattle.std.specs.shelf.Lists.{joined}
 use Rattle.text.specs.Pages.{most-bytes, written}
 use Rattle.text.specs.Rows.{line}
-use Rattle.text.proofs.Taken.{take-twice, take-short}
+use Rattle.text.proofs.Taken.{take-twice, page-whole}
 use Rattle.text.proofs.WrittenLine.{line-shape}
 use Rattle.text.proofs.page.Page.push_line.Needs as need
 
@@ -21,7 +21,7 @@ abbrev part : ℤ → List ℕ
 part z = 44 ∷ signed z
 
 pub loop-v-holds : need.loop-v-holds
-loop-v-holds c = take-short (c .push-all .last .self .len) (c .push-all .last .self .bytes) (c .push-all .last .self .within)
+loop-v-holds c = page-whole (c .push-all .last .self)
 
 pub loop-v-again : need.loop-v-again
 loop-v-again c =
