@@ -48,10 +48,11 @@ fn holder_in(book: &Book, row: u16) -> Holder
     ensures { λ r. ⌜ r ≡ holder (contents (now (book .entry))) row ⌝ }
 {
     let holders = book.holders();
-    if row == 0 || row as usize > holders.len() {
+    if row == 0 {
         return NOBODY;
     }
-    holders[row as usize - 1]
+    let place = row as usize - 1;
+    if place < holders.len() { holders[place] } else { NOBODY }
 }
 
 // The name of the holder in a row.
