@@ -24,7 +24,7 @@ fn list(rt: &LibcRuntime, book: &Book) -> Result<(), AnyError> {
     let Ok(count) = pair_without_notices(book, &mut table) else {
         return Err("the table of lines is too small".into());
     };
-    print_lines(rt, book, &table[0..count.min(MOST_LINES)])
+    print_lines(rt, book, &table[0..count])
 }
 
 fn run(rt: &LibcRuntime) -> Result<(), AnyError> {

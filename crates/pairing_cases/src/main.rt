@@ -71,7 +71,7 @@ fn list(rt: &LibcRuntime, book: &Book, lots: &[u8]) -> Result<(), AnyError> {
     let Ok(lines) = pair(book, &records, &mut table) else {
         return Err("the table of lines is too small".into());
     };
-    print_lines(rt, book, &table[0..lines.min(MOST_LINES)])
+    print_lines(rt, book, &table[0..lines])
 }
 
 fn play_one(rt: &LibcRuntime, book: &mut Book, case: &[u8]) -> Result<(), AnyError> {

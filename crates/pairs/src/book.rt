@@ -27,6 +27,7 @@ const PLACES_A_HOLDER: usize = 4;
 fn pair_book(book: &Book, lots: &[SellerLots], lines: &mut [Line]) -> Result<usize, PairingFault>
     ensures answers_the_count { λ r. ⌜ r ≡ pair-answer (contents (now (book .entry))) (lots-in (contents (now (book .entry))) (now (lots .entry))) (now (lines .entry)) ⌝ }
     ensures lines_as_defined { λ _. ⌜ now (lines .exit) ≡ pair-leaves (contents (now (book .entry))) (lots-in (contents (now (book .entry))) (now (lots .entry))) (now (lines .entry)) ⌝ }
+    ensures count_within_the_table { λ r. ⌜ made r (λ n. n ≤ length (now (lines .entry))) ⌝ }
 {
     let holders = book.holders();
     if lines.len() < PLACES_A_HOLDER * holders.len() {
@@ -39,6 +40,7 @@ fn pair_book(book: &Book, lots: &[SellerLots], lines: &mut [Line]) -> Result<usi
 fn pair_by_law(book: &Book, lots: &[SellerLots], lines: &mut [Line]) -> Result<usize, PairingFault>
     ensures answers_the_count { λ r. ⌜ r ≡ pair-answer (contents (now (book .entry))) (lots-in (contents (now (book .entry))) (now (lots .entry))) (now (lines .entry)) ⌝ }
     ensures lines_as_defined { λ _. ⌜ now (lines .exit) ≡ pair-leaves (contents (now (book .entry))) (lots-in (contents (now (book .entry))) (now (lots .entry))) (now (lines .entry)) ⌝ }
+    ensures count_within_the_table { λ r. ⌜ made r (λ n. n ≤ length (now (lines .entry))) ⌝ }
     ensures lines_keep_the_laws { λ r. ⌜ Of-lines r (now (lines .exit)) (λ ls. 0 < length (contents (now (book .entry)) .holders) → Lawful (contents (now (book .entry))) (lots-in (contents (now (book .entry))) (now (lots .entry))) ls) ⌝ }
 {
     pair_book(book, lots, lines)
@@ -49,6 +51,7 @@ fn pair_by_law(book: &Book, lots: &[SellerLots], lines: &mut [Line]) -> Result<u
 pub fn pair(book: &Book, lots: &[SellerLots], lines: &mut [Line]) -> Result<usize, PairingFault>
     ensures answers_the_count { λ r. ⌜ r ≡ pair-answer (contents (now (book .entry))) (lots-in (contents (now (book .entry))) (now (lots .entry))) (now (lines .entry)) ⌝ }
     ensures lines_as_defined { λ _. ⌜ now (lines .exit) ≡ pair-leaves (contents (now (book .entry))) (lots-in (contents (now (book .entry))) (now (lots .entry))) (now (lines .entry)) ⌝ }
+    ensures count_within_the_table { λ r. ⌜ made r (λ n. n ≤ length (now (lines .entry))) ⌝ }
     ensures lines_keep_the_laws { λ r. ⌜ Of-lines r (now (lines .exit)) (λ ls. 0 < length (contents (now (book .entry)) .holders) → Lawful (contents (now (book .entry))) (lots-in (contents (now (book .entry))) (now (lots .entry))) ls) ⌝ }
 {
     pair_by_law(book, lots, lines)
@@ -84,6 +87,7 @@ fn pair_from_empty(book: &Book, records: &mut [SellerLots], lines: &mut [Line]) 
     requires room { ⌜ 256 ≤ length (now records) ⌝ }
     ensures answers_the_count { λ r. ⌜ r ≡ pair-answer (contents (now (book .entry))) (added (contents (now (book .entry))) []) (now (lines .entry)) ⌝ }
     ensures lines_as_defined { λ _. ⌜ now (lines .exit) ≡ pair-leaves (contents (now (book .entry))) (added (contents (now (book .entry))) []) (now (lines .entry)) ⌝ }
+    ensures count_within_the_table { λ r. ⌜ made r (λ n. n ≤ length (now (lines .entry))) ⌝ }
     ensures lines_keep_the_laws { λ r. ⌜ Of-lines r (now (lines .exit)) (λ ls. 0 < length (contents (now (book .entry)) .holders) → Notified (contents (now (book .entry))) (added (contents (now (book .entry))) []) × Lawful (contents (now (book .entry))) (added (contents (now (book .entry))) []) ls) ⌝ }
 {
     hand_out(book, records)?;
@@ -94,6 +98,7 @@ fn pair_from_empty(book: &Book, records: &mut [SellerLots], lines: &mut [Line]) 
 pub fn pair_without_notices(book: &Book, lines: &mut [Line]) -> Result<usize, PairingFault>
     ensures answers_the_count { λ r. ⌜ r ≡ pair-answer (contents (now (book .entry))) (added (contents (now (book .entry))) []) (now (lines .entry)) ⌝ }
     ensures lines_as_defined { λ _. ⌜ now (lines .exit) ≡ pair-leaves (contents (now (book .entry))) (added (contents (now (book .entry))) []) (now (lines .entry)) ⌝ }
+    ensures count_within_the_table { λ r. ⌜ made r (λ n. n ≤ length (now (lines .entry))) ⌝ }
     ensures lines_keep_the_laws { λ r. ⌜ Of-lines r (now (lines .exit)) (λ ls. 0 < length (contents (now (book .entry)) .holders) → Notified (contents (now (book .entry))) (added (contents (now (book .entry))) []) × Lawful (contents (now (book .entry))) (added (contents (now (book .entry))) []) ls) ⌝ }
 {
     let mut records = [SellerLots::NONE; MOST_HOLDERS];

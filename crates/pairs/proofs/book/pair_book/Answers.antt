@@ -16,4 +16,4 @@ returns c =
   let w = written b (lots-in b (c .args .lots .now)) (c .args .lines .now) (c .lines-of-rows .last .lines) (c .lines-of-rows .result) (omega (arith, n))
     (all .by-the-rule ∙ rows-lines b xs hs (c .args .lots .now) (c .assets .ensures .value) (c .holders-holders .ensures .value))
     (all .later-places-stay) (omega (arith, n, all .room)) in
-  record { answers-the-count = w .answer; lines-as-defined = w .leaves }
+  record { answers-the-count = w .answer; lines-as-defined = w .leaves; count-within-the-table = omega (arith, n, all .room) }

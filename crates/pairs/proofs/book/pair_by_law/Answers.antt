@@ -17,6 +17,7 @@ returns c =
   record
     { answers-the-count = c .pair-book .ensures .answers-the-count
     ; lines-as-defined = c .pair-book .ensures .lines-as-defined
+    ; count-within-the-table = c .pair-book .ensures .count-within-the-table
     ; lines-keep-the-laws = of-lines b lots (c .args .lines .now) (c .pair-book .last .lines) (c .pair-book .result)
         (c .pair-book .ensures .answers-the-count) (c .pair-book .ensures .lines-as-defined)
         (λ (ls : List Line). 0 < length (b .holders) → Lawful b lots ls) (λ some. lines-lawful b (book-sound (c .args .book .now) some) lots) }

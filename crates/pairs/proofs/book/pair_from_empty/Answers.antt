@@ -27,6 +27,7 @@ returns c =
   record
     { answers-the-count = answer
     ; lines-as-defined = leaves
+    ; count-within-the-table = c .pair .ensures .count-within-the-table
     ; lines-keep-the-laws = of-lines b (added b []) table (c .pair .last .lines) (c .pair .result) answer leaves
         (λ (ls : List Line). 0 < length (b .holders) → Notified b (added b []) × Lawful b (added b []) ls)
         (λ some. let ok = book-sound book some in (all-notified b ok, lines-lawful b ok (added b []))) }
