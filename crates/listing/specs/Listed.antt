@@ -5,7 +5,6 @@ use Rattle.pairing.specs.declared.stage.Stage.{Stage}
 use Rattle.pairing.specs.declared.stage.Stage.the-variants.{Member, Clearing, Agent, Whole}
 use Rattle.pairing.specs.declared.line.Line.{Line}
 use Rattle.listing.specs.declared.ListedLine.{ListedLine}
-use Rattle.listing.specs.declared.Name.{Name}
 
 -- Stages count from 1: by member, by clearing member, by payment agent and over the whole book.
 abbrev pub stage-number : Stage → ℕ

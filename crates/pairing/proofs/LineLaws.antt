@@ -3,36 +3,33 @@ use Prim.Native.Nat.{ℕ, zero, suc, _+_, _-_, _*_, _<_, _≤_}
 use native.Mathlib.Nat.{mul-le-mul}
 use native.Mathlib.Numerals.{add-one}
 use mathlib.Core.Path.{_≡_, refl, sym, ap, subst, _∙_}
-use mathlib.Core.Bool.{Bool, true, false, _&&_, not, cond}
-use mathlib.Core.List.{List, [], _∷_, _++_, map}
-use mathlib.Core.Logic.{_⊎_, inl, inr, ⊎-elim}
-use lib.Dec.{ltb, eqb}
-use lib.IntN.{ℤ, pos, negsuc, natAbs, subℕ}
-use lib.ListN.{length, getD}
+use mathlib.Core.Bool.{Bool, true, false, cond}
+use mathlib.Core.List.{List, []}
+use mathlib.Core.Logic.{_⊎_, ⊎-elim}
+use lib.Dec.{eqb}
+use lib.IntN.{subℕ}
+use lib.ListN.{length}
 use native.Mathlib.Omega.{arith}
 use Rattle.std.specs.shelf.Lists.{All, sumBy}
 use Rattle.std.proofs.shelf.Elements.{all-weaker}
 use Rattle.std.proofs.shelf.Lists.{getD-past}
-use Rattle.std.proofs.shelf.Tests.{cases-eq, cases-lt, cases-bool, eq-eqb, ne-eqb, eqb-true, both-ways}
+use Rattle.std.proofs.shelf.Tests.{cases-eq, cases-lt, cases-bool, eq-eqb, ne-eqb, both-ways}
 use Rattle.book.specs.declared.records.Holder.{Holder}
-use Rattle.pairing.specs.declared.pair.Unpaired.{Unpaired}
 use Rattle.pairing.specs.declared.pair.Pair.{Pair}
 use Rattle.pairing.specs.declared.line.Line.{Line}
-use Rattle.pairing.specs.declared.stage.Stage.{Stage}
 use Rattle.book.specs.Books.{Contents, Sound, holder, nobody, buys, sells, volume}
-use Rattle.pairing.specs.Pairing.{unpaired, pairs}
-use Rattle.pairing.specs.Lines.{Lot, lot, total, of-seller, fresh, lines-of}
-use Rattle.pairing.specs.Laws.{position-on, different-pairs, Pairing}
-use Rattle.pairing.specs.InWords.{at}
-use Rattle.pairing.proofs.PairWords.{contracts-of, Sides, Lawful}
+use Rattle.pairing.specs.Pairing.{pairs}
+use Rattle.pairing.specs.Lines.{Lot, lot, fresh, lines-of}
+use Rattle.pairing.specs.Laws.{different-pairs, Pairing}
+use Rattle.pairing.proofs.PairRelations.{contracts-of, Sides, Lawful}
 use Rattle.pairing.proofs.PairLaws.{rows, rows-length, row-is, sound-rows, pairs-lawful}
 use Rattle.pairing.specs.Laws.{Notified}
 use Rattle.pairing.proofs.LineWords.{Fresh}
 use Rattle.pairing.proofs.LineSums.{over-assets, over-parts, by-assets}
-use Rattle.pairing.proofs.LineSteps.{sold-of, between, In-lots}
+use Rattle.pairing.proofs.LineSteps.{sold-of, between}
 use Rattle.pairing.proofs.LineRuns.{between-pairs, Enough, runs-between, runs-in-lots, runs-all, runs-length, runs-names}
 use Rattle.pairing.proofs.Signs.{not-buys-sells, sells-not-buys, position-from}
-use Rattle.pairing.proofs.SumsMore.{sum-same, each, sum-add, sum-none}
+use Rattle.pairing.proofs.EqualSums.{sum-same, each, sum-add, sum-none}
 
 pub eqb-next : (x k : ℕ) → eqb (x + 1) (k + 1) ≡ eqb x k
 eqb-next x k = ⊎-elim

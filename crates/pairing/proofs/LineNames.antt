@@ -1,15 +1,15 @@
 -- How many different pairs of buyer and seller lines name: a pair adds one at most.
-use Prim.Native.Nat.{ℕ, zero, suc, _+_, _-_, _<_, _≤_, min}
-use mathlib.Core.Path.{_≡_, refl, sym, ap, subst, _∙_}
-use mathlib.Core.Bool.{Bool, true, false, _&&_, _||_, not, cond}
+use Prim.Native.Nat.{ℕ, zero, suc, _+_, _-_, _≤_, min}
+use mathlib.Core.Path.{_≡_, refl, sym, ap, _∙_}
+use mathlib.Core.Bool.{Bool, true, false, _&&_, _||_, cond}
 use mathlib.Core.List.{List, [], _∷_, _++_}
 use lib.Dec.{eqb}
 use native.Mathlib.Omega.{arith}
-use Rattle.std.proofs.shelf.Tests.{cases-eq, eq-eqb, eqb-true, and-parts, and-from}
+use Rattle.std.proofs.shelf.Tests.{eq-eqb, eqb-true, and-parts, and-from}
 use Rattle.pairing.specs.declared.pair.Pair.{Pair}
 use Rattle.pairing.specs.declared.line.Line.{Line}
 use Rattle.order.specs.First.{any}
-use Rattle.pairing.specs.Lines.{Lot, left, add-line, fresh, lines-of-pair, lines-of-pairs}
+use Rattle.pairing.specs.Lines.{Lot, left, add-line, fresh, lines-of-pair}
 use Rattle.pairing.specs.Laws.{different-pairs}
 
 -- Whether a line names this buyer and this seller.

@@ -1,36 +1,33 @@
 -- Lines keep most contracts near: any lines that pair the book are pairs of its rows, and the pairs made are nearest among these.
-use Prim.Native.Nat.{ℕ, zero, suc, _+_, _-_, _<_, _≤_}
+use Prim.Native.Nat.{ℕ, _+_, _-_, _<_, _≤_}
 use mathlib.Core.Path.{_≡_, refl, sym, ap, subst, _∙_}
-use mathlib.Core.Bool.{Bool, true, false, _&&_, not, cond}
-use mathlib.Core.List.{List, [], _∷_, _++_, map}
+use mathlib.Core.Bool.{true, _&&_, cond}
+use mathlib.Core.List.{List, [], _∷_, map}
 use mathlib.Core.Logic.{_⊎_, inl, inr, ⊎-elim}
-use lib.Dec.{ltb, eqb}
-use lib.IntN.{ℤ, pos, negsuc, natAbs, subℕ}
-use lib.ListN.{length, getD}
+use lib.Dec.{eqb}
+use lib.ListN.{length}
 use native.Mathlib.Omega.{arith}
-use Rattle.std.specs.shelf.Lists.{All, sumBy}
+use Rattle.std.specs.shelf.Lists.{All}
 use Rattle.std.proofs.shelf.Elements.{all-weaker, all-map}
 use Rattle.std.proofs.shelf.Sums.{sumBy-cons}
 use Rattle.std.proofs.shelf.Tests.{cases-eq, cases-bool, eq-eqb, ne-eqb, eqb-true, and-parts}
-use Rattle.book.specs.declared.records.Holder.{Holder}
 use Rattle.pairing.specs.declared.pair.Unpaired.{Unpaired}
 use Rattle.pairing.specs.declared.pair.Pair.{Pair}
 use Rattle.pairing.specs.declared.line.Line.{Line}
 use Rattle.pairing.specs.declared.stage.Stage.{Stage}
-use Rattle.book.specs.Books.{Contents, Sound, holder, nobody, buys, sells, volume}
+use Rattle.book.specs.Books.{Contents, Sound, holder, buys, sells, volume}
 use Rattle.pairing.specs.Pairing.{unpaired, pairs, key}
-use Rattle.pairing.specs.Lines.{Lot, total, lines-of}
-use Rattle.pairing.specs.Laws.{position-on, group-of, within, Pairing, Well-paired}
+use Rattle.pairing.specs.Lines.{Lot, lines-of}
+use Rattle.pairing.specs.Laws.{group-of, within, Pairing, Well-paired}
 use Rattle.pairing.specs.InWords.{at}
-use Rattle.pairing.proofs.PairWords.{contracts-of, Sides, Lawful}
-use Rattle.pairing.proofs.PairWords as words
+use Rattle.pairing.proofs.PairRelations.{contracts-of, Sides}
+use Rattle.pairing.proofs.PairRelations as words
 use Rattle.pairing.proofs.PairLaws.{rows, rows-length, row-is, pairs-lawful}
 use Rattle.pairing.specs.Laws.{Notified}
 use Rattle.pairing.proofs.LineSteps.{between}
-use Rattle.pairing.proofs.LineRuns.{between-pairs}
 use Rattle.pairing.proofs.LineLaws.{in-book, no-row, lines-between, lines-pairing, lines-fewer}
 use Rattle.pairing.proofs.Signs.{sells-not-buys, volume-from}
-use Rattle.pairing.proofs.SumsMore.{sum-same, each, sum-add, sum-none, sum-map-is}
+use Rattle.pairing.proofs.EqualSums.{sum-same, each, sum-add, sum-none, sum-map-is}
 
 -- A line as a pair: places are rows less one.
 abbrev pub back : Line → Pair

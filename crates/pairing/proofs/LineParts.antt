@@ -2,12 +2,12 @@
 use Prim.Native.Nat.{ℕ, zero, suc, _+_, _-_, _<_, _≤_, min}
 use native.Mathlib.Nat.{min-le-left}
 use mathlib.Core.Path.{_≡_, refl, sym, ap, subst, _∙_}
-use mathlib.Core.Bool.{Bool, true, false, _&&_, not, cond}
+use mathlib.Core.Bool.{Bool, true, false, cond}
 use mathlib.Core.List.{List, [], _∷_, _++_, append-assoc, append-nil}
-use lib.Dec.{ltb, eqb}
+use lib.Dec.{eqb}
 use lib.ListN.{length}
 use native.Mathlib.Omega.{arith}
-use Rattle.std.specs.shelf.Lists.{All, sumBy}
+use Rattle.std.specs.shelf.Lists.{All}
 use Rattle.std.proofs.shelf.Sums.{sumBy-append}
 use Rattle.std.proofs.shelf.Elements.{all-append}
 use Rattle.std.proofs.shelf.Tests.{eqb-true}
@@ -15,7 +15,7 @@ use Rattle.pairing.specs.declared.pair.Pair.{Pair}
 use Rattle.pairing.specs.declared.line.Line.{Line}
 use Rattle.book.specs.Books.{Contents, Sound}
 use Rattle.pairing.specs.Pairing.{pairs}
-use Rattle.pairing.specs.Lines.{Lot, lot, left, add-line, fresh, lines-of-pair, lines-of-pairs, lines-of}
+use Rattle.pairing.specs.Lines.{Lot, left, add-line, fresh, lines-of-pair, lines-of-pairs, lines-of}
 use Rattle.pairing.specs.Laws.{Notified, Of, contracts-in, Parts, done, part}
 use Rattle.pairing.proofs.LineSums.{over-assets}
 use Rattle.pairing.proofs.LineSteps.{In-lots, room, pair-in-lots}

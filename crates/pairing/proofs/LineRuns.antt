@@ -1,10 +1,10 @@
 -- What the lines of all pairs have.
 use Prim.Native.Nat.{ℕ, zero, suc, _+_, _-_, _*_, _<_, _≤_}
-use native.Mathlib.Nat.{add-mul, mul-add, mul-one}
-use mathlib.Core.Path.{_≡_, refl, sym, ap, subst, _∙_}
-use mathlib.Core.Bool.{Bool, true, false, _&&_, not, cond}
-use mathlib.Core.List.{List, [], _∷_, _++_}
-use lib.Dec.{ltb, eqb}
+use native.Mathlib.Nat.{add-mul}
+use mathlib.Core.Path.{_≡_, refl, ap}
+use mathlib.Core.Bool.{Bool, cond}
+use mathlib.Core.List.{List, [], _∷_}
+use lib.Dec.{eqb}
 use lib.ListN.{length}
 use native.Mathlib.Omega.{arith}
 use Rattle.std.specs.shelf.Lists.{All, sumBy}
@@ -12,9 +12,9 @@ use Rattle.std.proofs.shelf.Sums.{sumBy-cons}
 use Rattle.std.proofs.shelf.Tests.{eq-eqb}
 use Rattle.pairing.specs.declared.pair.Pair.{Pair}
 use Rattle.pairing.specs.declared.line.Line.{Line}
-use Rattle.pairing.specs.Lines.{Lot, lot, total, of-seller, left, fresh, lines-of-pair, lines-of-pairs}
+use Rattle.pairing.specs.Lines.{Lot, lot, left, fresh, lines-of-pair, lines-of-pairs}
 use Rattle.pairing.specs.Laws.{different-pairs}
-use Rattle.pairing.proofs.LineSums.{over-assets, over-same, over-add, by-assets}
+use Rattle.pairing.proofs.LineSums.{over-assets, by-assets}
 use Rattle.pairing.proofs.LineSteps.{sold-of, between, In-lots, pair-between, pair-in-lots, pair-all, pair-length}
 use Rattle.pairing.proofs.LineNames.{pair-adds-one}
 

@@ -1,21 +1,21 @@
 -- What the lines of a pair add to the lines so far.
 use Prim.Native.Nat.{ℕ, zero, suc, _+_, _-_, _<_, _≤_, min}
 use native.Mathlib.Nat.{min-le-left, min-le-right, min-eq-left, min-eq-right}
-use mathlib.Core.Path.{_≡_, refl, sym, ap, subst, _∙_}
-use mathlib.Core.Bool.{Bool, true, false, _&&_, not, cond}
+use mathlib.Core.Path.{_≡_, refl, ap, subst}
+use mathlib.Core.Bool.{Bool, true, false, _&&_, cond}
 use mathlib.Core.List.{List, [], _∷_, _++_}
 use mathlib.Core.Logic.{_⊎_, inl, inr, ⊎-elim}
-use lib.Dec.{ltb, eqb}
+use lib.Dec.{eqb}
 use lib.ListN.{length, length-append}
 use native.Mathlib.Omega.{arith}
-use Rattle.std.specs.shelf.Lists.{All, sumBy}
-use Rattle.std.proofs.shelf.Sums.{sumBy-cons, sumBy-push}
+use Rattle.std.specs.shelf.Lists.{All}
+use Rattle.std.proofs.shelf.Sums.{sumBy-push}
 use Rattle.std.proofs.shelf.Elements.{all-push}
-use Rattle.std.proofs.shelf.Tests.{cases-eq, cases-lt, eq-eqb, ne-eqb, eqb-true, eqb-false, and-parts}
+use Rattle.std.proofs.shelf.Tests.{cases-lt, eqb-true, eqb-false, and-parts}
 use Rattle.pairing.specs.declared.pair.Pair.{Pair}
 use Rattle.pairing.specs.declared.line.Line.{Line}
-use Rattle.pairing.specs.Lines.{Lot, lot, total, of-seller, left, add-line, fresh, lines-of-pair, lines-of-pairs}
-use Rattle.pairing.proofs.LineSums.{over-assets, over-same, by-assets, off}
+use Rattle.pairing.specs.Lines.{Lot, lot, total, of-seller, left, add-line, fresh, lines-of-pair}
+use Rattle.pairing.proofs.LineSums.{over-assets, over-same, off}
 
 -- The contracts of a seller's lines of an asset.
 abbrev pub sold-of : List Line → ℕ → ℕ → ℕ

@@ -1,13 +1,10 @@
 -- Words of the proofs on lines.
-use Prim.Native.Nat.{ℕ, _+_, _<_}
+use Prim.Native.Nat.{_<_}
 use mathlib.Core.Path.{_≡_}
-use mathlib.Core.Bool.{Bool, true, false, cond}
-use mathlib.Core.List.{List}
-use lib.Dec.{eqb}
+use mathlib.Core.Bool.{true}
 use lib.ListN.{length}
-use Rattle.std.specs.shelf.Lists.{All, sumBy}
 use Rattle.pairing.specs.declared.line.Line.{Line}
-use Rattle.book.specs.Books.{Contents, holder, buys, sells, volume}
+use Rattle.book.specs.Books.{Contents, holder, buys, sells}
 
 -- A line as pairing makes it: some contracts of a buyer and a seller in an asset of the book, with nothing taken yet.
 pub record Fresh (b : Contents) (l : Line) : Type 0 where

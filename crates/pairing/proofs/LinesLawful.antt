@@ -1,10 +1,10 @@
 -- The lines of a book that is not empty are lawful, and so are those without notices.
-use Prim.Native.Nat.{ℕ, zero, suc, _+_, _-_, _*_, _<_, _≤_}
+use Prim.Native.Nat.{ℕ, zero, suc, _+_, _-_, _<_}
 use native.Mathlib.Nat.{mul-le-mul}
 use native.Mathlib.Numerals.{add-one}
 use native.Mathlib.Omega.{arith}
-use mathlib.Core.Path.{_≡_, refl, sym, ap, subst, _∙_}
-use mathlib.Core.Bool.{Bool, true, false, cond}
+use mathlib.Core.Path.{_≡_, refl, sym, ap, _∙_}
+use mathlib.Core.Bool.{true, cond}
 use mathlib.Core.List.{List, [], _∷_}
 use lib.Dec.{eqb}
 use lib.ListN.{length, getD}
@@ -23,7 +23,7 @@ use Rattle.pairing.proofs.LineLaws.{lines-lots}
 use Rattle.pairing.proofs.LineNear.{lines-well-paired}
 use Rattle.pairing.proofs.LineParts.{lines-parts}
 use Rattle.pairing.proofs.FirstDeliverable.{first-deliverable-in}
-use Rattle.pairing.proofs.ToldOnce.{pairs-as-told}
+use Rattle.pairing.proofs.RuleToldOnce.{pairs-as-told}
 
 module _ (b : Contents) (ok : Sound b) (lots : List Lot) where
 

@@ -1,28 +1,21 @@
 -- Lots: the first deliverable is an asset of the book, so the end of the notices names only such; and the lines of all lots are few.
-use Prim.Native.Nat.{ℕ, zero, suc, _+_, _-_, _<_, _≤_}
-use mathlib.Core.Path.{_≡_, refl, sym, ap, subst, _∙_}
-use mathlib.Core.Bool.{Bool, true, false, cond}
+use Prim.Native.Nat.{ℕ, _+_, _-_, _<_, _≤_}
+use mathlib.Core.Path.{_≡_, refl, ap, _∙_}
+use mathlib.Core.Bool.{true, cond}
 use mathlib.Core.List.{List, [], _∷_, _++_}
 use lib.Dec.{eqb}
 use lib.ListN.{length}
 use native.Mathlib.Omega.{arith}
 use Rattle.std.specs.shelf.Lists.{All, sumBy}
 use Rattle.std.proofs.shelf.Elements.{all-append}
-use Rattle.std.specs.declared.option.Option.{Option}
-use Rattle.std.specs.declared.option.Option.the-variants.{Some, None}
-use Rattle.book.specs.declared.records.Asset.{Asset}
 use Rattle.book.specs.declared.records.Holder.{Holder}
-use Rattle.pairing.specs.declared.deliverable.Deliverable.{Deliverable}
-use Rattle.pairing.specs.declared.pair.Pair.{Pair}
-use Rattle.pairing.specs.declared.line.Line.{Line}
 use Rattle.pairing.specs.declared.stage.Stage.the-variants.{Whole}
 use Rattle.book.specs.Books.{Contents, Sound, holder, sells, volume}
-use Rattle.order.specs.First.{first}
-use Rattle.pairing.specs.Orders.{deliverable-leq, deliverables, place-or-0, first-deliverable}
+use Rattle.pairing.specs.Orders.{first-deliverable}
 use Rattle.pairing.specs.Pairing.{pairs}
 use Rattle.pairing.specs.Lines.{Lot, added, added-from, lines-of}
 use Rattle.pairing.proofs.FirstDeliverable.{first-deliverable-in}
-use Rattle.pairing.proofs.Shares.{at-most}
+use Rattle.pairing.proofs.GroupShares.{at-most}
 use Rattle.pairing.proofs.PairLaws.{rows, rows-bought, pairs-lawful}
 use Rattle.pairing.specs.Laws.{Notified}
 use Rattle.pairing.proofs.LineLaws.{lines-between}

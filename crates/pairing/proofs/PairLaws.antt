@@ -3,31 +3,28 @@ use Prim.Native.Nat.{ℕ, zero, suc, _+_, _-_, _<_, _≤_}
 use native.Mathlib.Numerals.{add-one}
 use mathlib.Core.Path.{_≡_, refl, sym, ap, subst, _∙_}
 use mathlib.Core.Bool.{Bool, true, false, _&&_, not, cond}
-use mathlib.Core.List.{List, [], _∷_, _++_, map}
+use mathlib.Core.List.{List, [], _∷_, map}
 use lib.Dec.{ltb, eqb}
 use lib.IntN.{ℤ, pos, negsuc, natAbs}
 use lib.Signed.{ltZ}
 use lib.ListN.{length, getD}
 use native.Mathlib.Omega.{arith}
-use Rattle.std.specs.shelf.Lists.{All, sumBy}
+use Rattle.std.specs.shelf.Lists.{sumBy}
 use Rattle.std.proofs.shelf.Elements.{all-getD}
 use Rattle.std.proofs.shelf.Sums.{sumBy-cons, countBy-le-length}
 use Rattle.std.proofs.shelf.Tests.{lt-ltb, le-ltb}
-use Rattle.std.specs.declared.option.Option.{Option}
-use Rattle.std.specs.declared.option.Option.the-variants.{Some, None}
 use Rattle.book.specs.declared.records.Holder.{Holder}
 use Rattle.pairing.specs.declared.pair.Unpaired.{Unpaired}
-use Rattle.pairing.specs.declared.pair.Pair.{Pair}
 use Rattle.pairing.specs.declared.stage.Group.{Group}
 use Rattle.book.specs.Books.{Contents, Sound, Holder-in-range, holder, nobody, buys, sells, volume}
 use Rattle.book.specs.Books as books
-use Rattle.pairing.specs.Pairing.{no-holder, paired, repeat, in-group, in-groups, equal-pair, first-pair, all-groups, unpaired, pairs}
+use Rattle.pairing.specs.Pairing.{no-holder, repeat, in-group, in-groups, equal-pair, first-pair, all-groups, unpaired, pairs}
 use Rattle.pairing.specs.InWords.{at, bought, sold}
-use Rattle.pairing.proofs.PairWords.{Repeats, In-group, equal-first, Paired, over, group, groups, stages, whole, open-count, Made, Sound-rows, Lawful}
-use Rattle.pairing.proofs.Runs.{fair-counts, made-length}
-use Rattle.pairing.proofs.Rules.{first-fair, equal-fair, repeats-made}
-use Rattle.pairing.proofs.Unique.{run-repeats}
-use Rattle.pairing.proofs.Theorems.{pairing-laws}
+use Rattle.pairing.proofs.PairRelations.{In-group, equal-first, Paired, over, group, groups, stages, whole, open-count, Sound-rows, Lawful}
+use Rattle.pairing.proofs.MadePairs.{fair-counts, made-length}
+use Rattle.pairing.proofs.FairPairs.{first-fair, equal-fair, repeats-made}
+use Rattle.pairing.proofs.EnoughTurns.{run-repeats}
+use Rattle.pairing.proofs.PairingLaws.{pairing-laws}
 
 -- ---- the fuelled functions satisfy the relations
 

@@ -5,7 +5,7 @@ use mathlib.Core.List.{List, [], _∷_, map}
 use lib.IntN.{pos, negsuc, negℤ}
 use Rattle.book.specs.declared.records.Asset.{Asset}
 use Rattle.book.specs.declared.records.Holder.{Holder}
-use Rattle.book.specs.Books.{Contents, invoice, invoice-of, value}
+use Rattle.book.specs.Books.{Contents, Sound, invoice, invoice-of, value}
 use Rattle.pairing.specs.declared.stage.Stage.{Stage}
 use Rattle.pairing.specs.declared.stage.Stage.the-variants.{Member, Clearing, Agent, Whole}
 use Rattle.pairing.specs.declared.pair.Pair.{Pair}
@@ -13,6 +13,7 @@ use Rattle.pairing.specs.declared.line.Line.{Line}
 use Rattle.pairing.specs.Orders.{first-deliverable}
 use Rattle.pairing.specs.Pairing.{pairs}
 use Rattle.pairing.specs.Lines.{added, lines-of, net}
+use Rattle.pairing.specs.Laws.{Notified}
 
 -- ---- short words
 
@@ -77,3 +78,7 @@ pub record Price-cases : Type 0 where
 
 abbrev pub Worked-cases : Type 0
 Worked-cases = Pairing-cases × Price-cases
+
+-- What the laws suppose can be had: the example is a book that exists, and without notices its lots add up.
+abbrev pub Premises-hold : Type 0
+Premises-hold = Sound example × Notified example (added example [])

@@ -1,14 +1,16 @@
 // Pairing: bought contracts against sold ones, and the lines that are delivered.
-ghost use Rattle.pairing.specs.Cases.{Worked-cases};
+ghost use Rattle.pairing.specs.Cases.{Worked-cases, Premises-hold};
 pub mod stage;
 pub mod pair;
 pub mod deliverable;
 pub mod line;
 pub mod orders;
 
-// The rule gives what was worked out by hand: pairs, prices, lines, values and nets.
+// The rule gives what was worked out by hand: pairs, prices, lines, values and nets. What its laws
+// suppose can be had.
 pub fn worked_cases_hold() -> u8
     ensures cases_by_hand_agree { λ _. ⌜ Worked-cases ⌝ }
+    ensures premises_can_be_had { λ _. ⌜ Premises-hold ⌝ }
 {
     0
 }

@@ -1,19 +1,17 @@
 -- The pairs of all groups: they are no more than the holders, and name only their places.
-use Prim.Native.Nat.{ℕ, _+_, _<_, _≤_}
+use Prim.Native.Nat.{ℕ, _<_, _≤_}
 use native.Mathlib.Omega.{arith}
-use mathlib.Core.Path.{_≡_, refl, sym, ap, subst, _∙_}
 use mathlib.Core.List.{List, [], _∷_}
 use lib.ListN.{length}
 use Rattle.std.specs.shelf.Lists.{All}
 use Rattle.std.proofs.shelf.Elements.{all-weaker}
 use Rattle.pairing.specs.declared.pair.Unpaired.{Unpaired}
-use Rattle.pairing.specs.declared.pair.Pair.{Pair}
 use Rattle.pairing.specs.declared.stage.Group.{Group}
 use Rattle.pairing.specs.Pairing.{in-groups}
-use Rattle.pairing.proofs.PairWords.{Made, Sides, open-count}
+use Rattle.pairing.proofs.PairRelations.{Made, Sides}
 use Rattle.pairing.proofs.PairLaws.{in-groups-holds, open-le}
-use Rattle.pairing.proofs.Rules.{paired-made}
-use Rattle.pairing.proofs.Runs.{made-count, made-sides}
+use Rattle.pairing.proofs.FairPairs.{paired-made}
+use Rattle.pairing.proofs.MadePairs.{made-count, made-sides}
 
 unit-all : (gs : List Group) → All (λ g. Unit {0}) gs
 unit-all [] = tt

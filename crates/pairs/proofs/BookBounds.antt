@@ -1,14 +1,14 @@
 -- What every book keeps, the empty one too: at most 4 assets, and at most 256 holders.
-use Prim.Native.Nat.{ℕ, _<_, _≤_}
+use Prim.Native.Nat.{_≤_}
 use native.Mathlib.Omega.{arith}
-use mathlib.Core.Path.{_≡_, sym, ap, _∙_}
-use mathlib.Core.Bool.{Bool, true, false, _&&_, _||_}
+use mathlib.Core.Path.{_≡_}
+use mathlib.Core.Bool.{true, _&&_}
 use mathlib.Core.Logic.{⊎-elim}
-use lib.Dec.{eqb, leb}
+use lib.Dec.{eqb}
 use lib.ListN.{length}
-use Rattle.std.proofs.shelf.Tests.{and-parts, or-cases, leb-true, eqb-true}
+use Rattle.std.proofs.shelf.Tests.{and-parts, or-cases, eqb-true}
 use Rattle.book.specs.declared.book.Book.{Book}
-use Rattle.book.specs.Books.{Contents, Sound}
+use Rattle.book.specs.Books.{Contents}
 use Rattle.book.specs.Lawful.{nothing, lawful}
 use Rattle.book.specs.Data.{contents}
 use Rattle.book.proofs.SoundLawful.{sound-from}

@@ -1,8 +1,8 @@
 mod HandedLots
-mod Masks
+mod MaskedHolders
 mod AllPairs
-mod Anys
+mod SomePass
 mod BookBounds
-mod Continues
+mod RuleContinued
 mod Outcomes
 mod WrittenLines

@@ -1,12 +1,12 @@
 -- Lines written one after the other into a table.
-use Prim.Native.Nat.{ℕ, zero, suc, _+_, _-_, _*_, _<_, _≤_, min}
+use Prim.Native.Nat.{ℕ, zero, suc, _+_, _-_, _<_, _≤_, min}
 use native.Mathlib.Omega.{arith}
-use mathlib.Core.Path.{_≡_, refl, sym, ap, subst, _∙_}
-use mathlib.Core.Bool.{Bool, true, false, _&&_, cond}
-use mathlib.Core.List.{List, [], _∷_, _++_}
-use mathlib.Core.Logic.{_⊎_, inl, inr, ⊎-elim}
+use mathlib.Core.Path.{_≡_, refl, sym, ap, _∙_}
+use mathlib.Core.Bool.{_&&_, cond}
+use mathlib.Core.List.{List, [], _∷_}
+use mathlib.Core.Logic.{_⊎_, ⊎-elim}
 use lib.Dec.{eqb}
-use lib.ListN.{length, getD, take, drop, set}
+use lib.ListN.{length, getD, drop}
 use Rattle.std.specs.shelf.Lists.{sumBy}
 use Rattle.std.proofs.shelf.Sums.{sumBy-cons, sumBy-append}
 use Rattle.std.proofs.shelf.Lists.{drop-drop, drop-more}
@@ -16,7 +16,7 @@ use Rattle.pairing.specs.declared.line.Line.{Line}
 use Rattle.pairing.specs.declared.pair.Pair.{Pair}
 use Rattle.pairing.specs.Lines.{Lot, lot, total, of-seller, left, add-line, fresh, lines-of-pair, lines-of-pairs}
 use Rattle.pairs.specs.declared.lots.SellerLots.{SellerLots}
-use Rattle.pairs.specs.Records.{no-lots, held, row-lots, lots-from}
+use Rattle.pairs.specs.Records.{held, row-lots, lots-from}
 
 -- What stands where a table has no line.
 abbrev pub no-line : Line

@@ -1,6 +1,5 @@
 -- Words of the search for the next pair of a group, which the private functions of this crate cite.
-use Prim.Native.Nat.{ℕ, _+_, _<_, _≤_}
-use mathlib.Core.Path.{_≡_}
+use Prim.Native.Nat.{ℕ, _<_, _≤_}
 use mathlib.Core.Bool.{Bool, true, false, _&&_, not}
 use mathlib.Core.List.{List}
 use lib.Dec.{eqb}
@@ -11,7 +10,7 @@ use Rattle.pairing.specs.declared.pair.Unpaired.{Unpaired}
 use Rattle.pairing.specs.declared.pair.Pair.{Pair}
 use Rattle.pairing.specs.declared.stage.Group.{Group}
 use Rattle.pairing.specs.Orders.{holder-leq}
-use Rattle.pairing.specs.Pairing.{key, side-in, on-side, pair-of, no-holder, lower, Made, repeat, and-then}
+use Rattle.pairing.specs.Pairing.{key, side-in, on-side, pair-of, no-holder, lower, Made, repeat}
 
 -- Some holder is of this group.
 abbrev pub occurs : Group → List Unpaired → Bool

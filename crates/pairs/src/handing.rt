@@ -1,8 +1,8 @@
 // What the end of the notices gives: each seller's unnotified contracts, to one asset.
 ghost use mathlib.Core.Path.{_≡_};
 ghost use mathlib.Core.Bool.{cond};
-ghost use Prim.Native.Nat.{ℕ, _+_, _-_, _<_, _≤_};
-ghost use lib.ListN.{length, getD, take, drop};
+ghost use Prim.Native.Nat.{_+_, _-_, _<_, _≤_};
+ghost use lib.ListN.{length, getD};
 ghost use Rattle.book.specs.Books.{sells, volume};
 ghost use Rattle.pairs.specs.Records.{in-lots, raised, filled, handed-from};
 use crate::lots::SellerLots;

@@ -2,8 +2,8 @@
 ghost use mathlib.Core.Path.{_≡_};
 ghost use mathlib.Core.Bool.{cond};
 ghost use mathlib.Core.List.{[]};
-ghost use Prim.Native.Nat.{ℕ, _+_, _-_, _*_, _<_, _≤_};
-ghost use lib.ListN.{length, getD, take, drop};
+ghost use Prim.Native.Nat.{_+_, _-_, _*_, _<_, _≤_};
+ghost use lib.ListN.{length, take, drop};
 ghost use Rattle.std.specs.shelf.Lists.{All};
 ghost use Rattle.pairing.specs.Lines.{total, of-seller, add-line, fresh, lines-of-pair, lines-of-pairs};
 ghost use Rattle.pairs.specs.Records.{held, lots-from};

@@ -1,7 +1,7 @@
 // The lines of the rows of a book: holders to pair, pairs, lines.
 ghost use mathlib.Core.Path.{_≡_};
 ghost use mathlib.Core.List.{map, []};
-ghost use Prim.Native.Nat.{ℕ, _*_, _<_, _≤_};
+ghost use Prim.Native.Nat.{_*_, _≤_};
 ghost use lib.ListN.{length, take, drop};
 ghost use Rattle.pairing.specs.Pairing.{in-groups, all-groups, unpaired};
 ghost use Rattle.pairing.specs.Lines.{lines-of-pairs};

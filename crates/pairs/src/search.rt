@@ -1,15 +1,14 @@
 // The search for the next pair of a group, and the pairs of all groups.
 ghost use mathlib.Core.Path.{_≡_};
-ghost use mathlib.Core.Bool.{Bool, true, false, not, _&&_};
+ghost use mathlib.Core.Bool.{true, false, _&&_};
 ghost use mathlib.Core.List.{map};
-ghost use Prim.Native.Nat.{ℕ, _+_, _-_, _<_, _≤_};
-ghost use lib.ListN.{length, getD, set, take};
-ghost use lib.Dec.{eqb};
+ghost use Prim.Native.Nat.{_+_, _-_, _<_, _≤_};
+ghost use lib.ListN.{length, take};
 ghost use Rattle.std.specs.Slices.{found};
-ghost use Rattle.order.specs.First.{first, any, place-of};
+ghost use Rattle.order.specs.First.{first, place-of};
 ghost use Rattle.pairing.specs.Orders.{holder-leq};
 ghost use Rattle.pairing.specs.Pairing.{key, side-in, on-side, paired, in-group, in-groups, numbered, all-groups, and-then};
-ghost use Rattle.pairing.proofs.PairWords.{open-count};
+ghost use Rattle.pairing.proofs.PairRelations.{open-count};
 ghost use Rattle.pairs.specs.Search.{occurs, passes, masked, next-pair, Takes, exhaust, so-far};
 use pairing::orders::ByVolume;
 use order::first_open;

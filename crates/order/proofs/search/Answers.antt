@@ -1,4 +1,4 @@
-use mathlib.Core.Path.{sym, subst, _∙_}
+use mathlib.Core.Path.{sym, subst}
 use Rattle.order.proofs.search.Needs as need
 use Rattle.order.proofs.Searching.{closed, opens, keeps, takes}
 use Rattle.order.specs.First.{FirstAmong}

@@ -1,5 +1,5 @@
-use Prim.Native.Nat.{_+_, _-_, _<_, min}
-use mathlib.Core.Path.{_≡_, ap, _∙_}
+use Prim.Native.Nat.{_-_, _<_, min}
+use mathlib.Core.Path.{ap, _∙_}
 use native.Mathlib.Omega.{arith}
 use lib.ListN.{take}
 use Rattle.pairing.specs.Lines.{add-line}

@@ -1,6 +1,6 @@
 use Prim.Native.Nat.{_+_, _-_, _≤_}
 use mathlib.Core.Path.{_≡_}
-use lib.ListN.{take, drop, length}
+use lib.ListN.{take, drop}
 use Rattle.pairing.specs.Lines.{lines-of-pair}
 use Rattle.pairs.specs.Records.{lots-from}
 use Rattle.pairs.proofs.lines.add_pair.Given as given

@@ -1,15 +1,14 @@
 use Prim.Native.Nat.{ℕ, _<_}
-use mathlib.Core.Path.{_≡_, sym, ap, subst, _∙_}
+use mathlib.Core.Path.{subst}
 use mathlib.Core.Bool.{Bool}
 use mathlib.Core.List.{List, map}
-use lib.ListN.{length}
 use Rattle.std.proofs.shelf.Lists.{length-map}
 use Rattle.std.specs.Slices.{found}
 use Rattle.order.specs.First.{FirstOpen}
 use Rattle.pairing.specs.declared.pair.Unpaired.{Unpaired}
 use Rattle.pairing.specs.Orders.{holder-leq, holder-open}
 use Rattle.pairs.specs.Search.{passes, masked}
-use Rattle.pairs.proofs.Masks.{masked-first, passes-open, first-open-found}
+use Rattle.pairs.proofs.MaskedHolders.{masked-first, passes-open, first-open-found}
 use Rattle.pairs.proofs.search.first_of.Needs as need
 
 pub returns : need.returns

@@ -4,7 +4,7 @@ use lib.Dec.{eqb}
 use Rattle.std.proofs.shelf.Tests.{eq-eqb, ne-eqb}
 use Rattle.pairing.specs.declared.pair.Unpaired.{Unpaired}
 use Rattle.pairing.specs.Pairing.{key, no-holder}
-use Rattle.pairs.proofs.Anys.{any-yes, any-no, any-end}
+use Rattle.pairs.proofs.SomePass.{any-yes, any-no, any-end}
 use Rattle.pairs.proofs.search.has_group.Needs as need
 
 pub returns-then-key-of-group : need.returns-then-key-of-group

@@ -1,11 +1,10 @@
-use mathlib.Core.Path.{sym, ap, _∙_}
+use mathlib.Core.Path.{sym, _∙_}
 use mathlib.Core.Bool.{Bool, _&&_}
 use lib.Dec.{eqb}
 use Rattle.std.proofs.shelf.Tests.{and-from, and-left, and-right, eq-eqb, ne-eqb}
 use Rattle.pairing.specs.declared.pair.Unpaired.{Unpaired}
-use Rattle.order.specs.First.{any}
 use Rattle.pairing.specs.Pairing.{side-in, no-holder}
-use Rattle.pairs.proofs.Anys.{any-yes, any-no, any-end}
+use Rattle.pairs.proofs.SomePass.{any-yes, any-no, any-end}
 use Rattle.pairs.proofs.search.has_volume.Needs as need
 use Rattle.pairs.proofs.search.has_volume.Needs.{else-stands-in·by·then-stands-in·else-volume-h, else-stands-in·by·else-stands-in}
 

@@ -1,7 +1,6 @@
 use mathlib.Core.Path.{_≡_, sym, ap, _∙_}
 use mathlib.Core.List.{List, [], _∷_, _++_, map}
-use lib.ListN.{length, take}
-use Prim.Native.Nat.{_<_, _≤_}
+use lib.ListN.{take}
 use native.Mathlib.Omega.{arith}
 use Rattle.std.proofs.shelf.Lists.{take-more-set, map-more, take-all}
 use Rattle.pairing.specs.declared.pair.Unpaired.{Unpaired}

@@ -1,9 +1,9 @@
-use mathlib.Core.Path.{_≡_, sym, ap, _∙_}
+use mathlib.Core.Path.{sym, ap, _∙_}
 use native.Mathlib.Omega.{arith}
 use Rattle.pairing.specs.Pairing.{Made, in-groups}
 use Rattle.pairing.proofs.PairLaws.{groups-are}
 use Rattle.pairs.specs.Search.{so-far}
-use Rattle.pairs.proofs.Continues.{stages-then}
+use Rattle.pairs.proofs.RuleContinued.{stages-then}
 use Rattle.pairs.proofs.search.pair_all.Needs as need
 
 pub returns : need.returns

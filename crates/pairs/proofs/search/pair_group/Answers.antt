@@ -1,10 +1,10 @@
 use mathlib.Core.Path.{sym, ap, _∙_}
 use native.Mathlib.Omega.{arith}
-use mathlib.Core.Bool.{true, false}
+use mathlib.Core.Bool.{false}
 use mathlib.Core.List.{_++_}
 use Rattle.pairing.specs.Pairing.{Made, and-then}
 use Rattle.pairs.specs.Search.{next-pair, exhaust, so-far}
-use Rattle.pairs.proofs.Continues.{group-then, empty-group, and-then-none}
+use Rattle.pairs.proofs.RuleContinued.{group-then, empty-group, and-then-none}
 use Rattle.pairs.proofs.search.pair_group.Needs as need
 
 pub returns : need.returns

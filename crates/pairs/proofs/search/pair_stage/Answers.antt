@@ -1,11 +1,11 @@
-use mathlib.Core.Path.{_≡_, sym, ap, _∙_}
-use mathlib.Core.List.{List, [], _∷_}
+use mathlib.Core.Path.{sym, ap, _∙_}
+use mathlib.Core.List.{List}
 use native.Mathlib.Omega.{arith}
 use Rattle.pairing.specs.declared.stage.Group.{Group}
 use Prim.Native.Nat.{_+_, _-_}
 use Rattle.pairing.specs.Pairing.{Made, and-then, in-group, in-groups, numbered}
 use Rattle.pairs.specs.Search.{so-far}
-use Rattle.pairs.proofs.Continues.{groups-more, numbered-more}
+use Rattle.pairs.proofs.RuleContinued.{groups-more, numbered-more}
 use Rattle.pairs.proofs.search.pair_stage.Needs as need
 
 pub loop-k-again : need.loop-k-again

@@ -2,7 +2,7 @@ use Prim.Native.Nat.{_+_, _-_, _≤_}
 use mathlib.Core.Path.{_≡_}
 use lib.ListN.{length}
 use Rattle.pairing.specs.Pairing.{and-then, in-groups, numbered}
-use Rattle.pairing.proofs.PairWords.{open-count}
+use Rattle.pairing.proofs.PairRelations.{open-count}
 use Rattle.pairs.specs.Search.{so-far}
 use Rattle.pairs.proofs.search.pair_stage.Given as given
 

@@ -1,5 +1,5 @@
-use Prim.Native.Nat.{ℕ, _+_, _<_, _≤_}
-use mathlib.Core.Path.{_≡_, sym, ap, subst, _∙_}
+use Prim.Native.Nat.{_+_, _<_}
+use mathlib.Core.Path.{_≡_, sym, ap, _∙_}
 use mathlib.Core.List.{List, [], _∷_, _++_}
 use lib.ListN.{length, take, set}
 use native.Mathlib.Omega.{arith}
@@ -7,9 +7,9 @@ use Rattle.std.proofs.shelf.Lists.{take-more-set, length-set}
 use Rattle.pairing.specs.declared.pair.Unpaired.{Unpaired}
 use Rattle.pairing.specs.declared.pair.Pair.{Pair}
 use Rattle.pairing.specs.Pairing.{paired, Made, and-then}
-use Rattle.pairing.proofs.PairWords.{open-count}
+use Rattle.pairing.proofs.PairRelations.{open-count}
 use Rattle.pairs.specs.Search.{next-pair, exhaust, so-far}
-use Rattle.pairs.proofs.Continues.{next-fair, fair-takes, next-falls, pair-more, pair-none}
+use Rattle.pairs.proofs.RuleContinued.{next-fair, fair-takes, next-falls, pair-more, pair-none}
 use Rattle.pairs.proofs.search.repeat_pairs.Needs as need
 
 pub take-pair-requires : need.take-pair-requires

@@ -2,7 +2,7 @@ use Prim.Native.Nat.{_+_, _≤_}
 use mathlib.Core.Path.{_≡_}
 use lib.ListN.{length}
 use Rattle.pairing.specs.Pairing.{and-then}
-use Rattle.pairing.proofs.PairWords.{open-count}
+use Rattle.pairing.proofs.PairRelations.{open-count}
 use Rattle.pairs.specs.Search.{next-pair, exhaust, so-far}
 use Rattle.pairs.proofs.search.repeat_pairs.Given as given
 

@@ -1,13 +1,13 @@
+-- The laws of the pairs of rows: a pairing, fewer pairs than holders, most contracts near.
 use Prim.Native.Nat.{ℕ, zero, suc, _+_, _-_, _<_, _≤_}
-use native.Mathlib.Numerals.{add-one}
 use mathlib.Core.Path.{_≡_, refl, sym, ap, subst, _∙_}
-use mathlib.Core.Bool.{Bool, true, false, _&&_, not, cond}
+use mathlib.Core.Bool.{Bool, _&&_, cond}
 use mathlib.Core.List.{List, [], _∷_, _++_, append-assoc}
 use mathlib.Core.Logic.{_⊎_, inl, inr, ⊎-elim}
 use lib.Dec.{ltb, eqb}
-use lib.ListN.{length, getD}
+use lib.ListN.{length}
 use native.Mathlib.Omega.{arith}
-use Rattle.std.specs.shelf.Lists.{All, sumBy}
+use Rattle.std.specs.shelf.Lists.{All}
 use Rattle.std.proofs.shelf.Elements.{all-append}
 use Rattle.std.proofs.shelf.Sums.{sumBy-cons, sumBy-append}
 use Rattle.std.proofs.shelf.Tests.{cases-eq, lt-ltb, le-ltb}
@@ -16,12 +16,12 @@ use Rattle.pairing.specs.declared.pair.Pair.{Pair}
 use Rattle.pairing.specs.declared.stage.Group.{Group}
 use Rattle.pairing.specs.declared.stage.Stage.{Stage}
 use Rattle.pairing.specs.declared.stage.Stage.the-variants.{Member, Clearing, Agent, Whole}
-use Rattle.pairing.specs.Pairing.{key, no-holder, numbered}
+use Rattle.pairing.specs.Pairing.{key, numbered}
 use Rattle.pairing.specs.InWords.{at, bought, sold, Emptied}
-use Rattle.pairing.proofs.PairWords.{groups, Paired, In-group, group, over, stages, Pairing, within, whole, Nested, rank, open-count, Made, Sound-rows, Nearest, Lawful, Pairing-laws}
-use Rattle.pairing.proofs.Shares.{at-most}
-use Rattle.pairing.proofs.Runs.{made-pairing, all-used, made-near, made-fewer, made-length, made-append}
-use Rattle.pairing.proofs.Rules.{in-group-made, in-group-emptied, paired-made, paired-split, Split}
+use Rattle.pairing.proofs.PairRelations.{groups, Paired, group, over, stages, within, whole, Nested, rank, open-count, Made, Sound-rows, Nearest, Pairing-laws}
+use Rattle.pairing.proofs.GroupShares.{at-most}
+use Rattle.pairing.proofs.MadePairs.{made-pairing, all-used, made-near, made-fewer, made-append}
+use Rattle.pairing.proofs.FairPairs.{in-group-made, in-group-emptied, paired-made, paired-split}
 
 -- ---- the place of a group among all groups
 

@@ -1,11 +1,12 @@
-use Prim.Native.Nat.{ℕ, _+_, _-_, _<_, _≤_, min}
+-- Each pair of the rule is fair, and a group ends with one side empty: the facts on which all laws stand.
+use Prim.Native.Nat.{ℕ, _+_, _-_, _<_, min}
 use native.Mathlib.Nat.{min-le-left, min-le-right, min-eq-left, min-eq-right}
 use mathlib.Core.Path.{_≡_, refl, sym, ap, subst, _∙_}
 use mathlib.Core.Bool.{Bool, true, false, _&&_, not, cond}
 use mathlib.Core.List.{List, [], _∷_, _++_, append-assoc}
 use mathlib.Core.Logic.{_⊎_, inl, inr, ⊎-elim}
 use lib.Dec.{ltb, eqb}
-use lib.ListN.{length, getD}
+use lib.ListN.{length}
 use native.Mathlib.Omega.{arith}
 use Rattle.std.proofs.shelf.Sums.{sumBy-cons}
 use Rattle.std.specs.shelf.Lists.{All}
@@ -16,13 +17,13 @@ use Rattle.pairing.specs.declared.pair.Unpaired.{Unpaired}
 use Rattle.pairing.specs.declared.pair.Pair.{Pair}
 use Rattle.pairing.specs.declared.stage.Group.{Group}
 use Rattle.pairing.specs.declared.stage.Stage.{Stage}
-use Rattle.pairing.specs.Pairing.{on-side, buys-in, sells-in, pair-of, first-pair, equal-pair, key, no-holder, paired}
+use Rattle.pairing.specs.Pairing.{on-side, buys-in, sells-in, pair-of, first-pair, equal-pair, key, no-holder}
 use Rattle.order.specs.First.{first}
 use Rattle.pairing.specs.Orders.{holder-leq, holder-open}
-use Rattle.pairing.specs.InWords.{at, volume-of, bought, sold, Emptied}
-use Rattle.pairing.proofs.PairWords.{Repeats, stop, more, In-group, equal-first, Paired, over, group, Fair, Made, none, one}
+use Rattle.pairing.specs.InWords.{at, bought, sold, Emptied}
+use Rattle.pairing.proofs.PairRelations.{Repeats, stop, more, In-group, equal-first, Paired, over, group, Fair, Made, none, one}
 use Rattle.order.proofs.FirstIs.{first-some, first-none}
-use Rattle.pairing.proofs.Runs.{made-append}
+use Rattle.pairing.proofs.MadePairs.{made-append}
 
 min-either : (a b : ℕ) → (min a b ≡ a) ⊎ (min a b ≡ b)
 min-either a b = ⊎-elim (λ h. inl (min-eq-left (omega arith))) (λ h. inr (min-eq-right h)) (cases-lt a b)

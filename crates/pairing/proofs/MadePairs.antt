@@ -1,16 +1,17 @@
+-- What fair pairs made one after the other have: sums, sides, nearness and number.
 use Prim.Native.Nat.{ℕ, _+_, _-_, _<_, _≤_}
-use mathlib.Core.Path.{_≡_, refl, sym, ap, subst, _∙_}
+use mathlib.Core.Path.{_≡_, refl, sym, ap, _∙_}
 use mathlib.Core.Bool.{Bool, true, false, _&&_, not, cond}
-use mathlib.Core.List.{List, [], _∷_, _++_}
-use mathlib.Core.Logic.{_⊎_, inl, inr, _≢_, ⊎-elim}
+use mathlib.Core.List.{List, _++_}
+use mathlib.Core.Logic.{_⊎_, ⊎-elim}
 use lib.Dec.{ltb, eqb}
-use lib.ListN.{length, getD, set}
+use lib.ListN.{length}
 use native.Mathlib.Omega.{arith}
-use Rattle.std.proofs.shelf.Sums.{sumBy-cons, sumBy-append, getD-le-sumBy, sumBy-set}
+use Rattle.std.proofs.shelf.Sums.{sumBy-cons, getD-le-sumBy, sumBy-set}
 use Rattle.std.proofs.shelf.Lists.{getD-set-same, getD-set-other, length-set}
-use Rattle.std.proofs.shelf.Tests.{cases-lt, lt-ltb, le-ltb, true≢false, cases-bool, cases-eq, eq-eqb, ne-eqb}
+use Rattle.std.proofs.shelf.Tests.{cases-lt, lt-ltb, le-ltb}
 use Rattle.std.proofs.shelf.Elements.{all-weaker}
-use Rattle.std.specs.shelf.Lists.{sumBy, All}
+use Rattle.std.specs.shelf.Lists.{All}
 use Rattle.pairing.specs.declared.pair.Unpaired.{Unpaired}
 use Rattle.pairing.specs.declared.pair.Pair.{Pair}
 use Rattle.pairing.specs.declared.stage.Group.{Group}
@@ -18,8 +19,8 @@ use Rattle.pairing.specs.declared.stage.Stage.{Stage}
 use Rattle.pairing.specs.declared.stage.Stage.the-variants.{Member, Clearing, Agent, Whole}
 use Rattle.pairing.specs.Pairing.{key, less, lower, no-holder, paired}
 use Rattle.pairing.specs.InWords.{at, volume-of, bought, sold, Emptied}
-use Rattle.pairing.proofs.PairWords.{contracts-of, Sides, Pairing, within, whole, Nested, rank, open-count, Fair, Made, none, one}
-use Rattle.pairing.proofs.Steps as step
+use Rattle.pairing.proofs.PairRelations.{contracts-of, Sides, Pairing, within, whole, Nested, rank, open-count, Fair, Made, none, one}
+use Rattle.pairing.proofs.LoweredHolders as step
 
 -- ---- a fair pair
 

@@ -4,7 +4,7 @@ use native.Mathlib.Omega.{arith}
 use mathlib.Core.Path.{_≡_, refl, sym, ap, subst, _∙_}
 use mathlib.Core.Bool.{Bool, true, false}
 use mathlib.Core.List.{List, [], _∷_, _++_, append-assoc, append-nil}
-use lib.ListN.{length, getD, take, set}
+use lib.ListN.{length}
 use Rattle.std.specs.declared.option.Option.{Option}
 use Rattle.std.specs.declared.option.Option.the-variants.{Some, None}
 use Rattle.std.proofs.shelf.Lists.{getD-set-other, length-set}
@@ -12,7 +12,7 @@ use Rattle.pairing.specs.declared.pair.Unpaired.{Unpaired}
 use Rattle.pairing.specs.declared.pair.Pair.{Pair}
 use Rattle.pairing.specs.declared.stage.Group.{Group}
 use lib.Dec.{eqb}
-use mathlib.Core.Logic.{_⊎_, inl, inr, ⊎-elim}
+use mathlib.Core.Logic.{_⊎_, ⊎-elim}
 use Rattle.std.proofs.shelf.Tests.{cases-bool, both-ways, and-left}
 use Rattle.order.specs.First.{first}
 use Rattle.order.proofs.FirstIs.{none-passes}
@@ -21,14 +21,14 @@ use Rattle.pairing.specs.declared.stage.Stage.{Stage}
 use Rattle.pairing.specs.declared.stage.Stage.the-variants.{Member, Clearing, Agent, Whole}
 use Rattle.pairing.specs.Orders.{holder-leq}
 use Rattle.pairing.specs.Pairing.{key, side-in, pair-of, no-holder, less, lower, paired, equal-pair, first-pair, Made, then-on, repeat, and-then, in-group, in-groups, numbered}
-use Rattle.pairing.proofs.Unique.{run-repeats}
+use Rattle.pairing.proofs.EnoughTurns.{run-repeats}
 use Rattle.pairing.specs.InWords.{at}
-use Rattle.pairing.proofs.PairWords.{open-count, Fair, stages}
+use Rattle.pairing.proofs.PairRelations.{open-count, Fair, stages}
 use Rattle.pairing.proofs.PairLaws.{open-le}
-use Rattle.pairing.proofs.Steps as step
-use Rattle.pairing.proofs.Runs.{fair-counts, made-length}
-use Rattle.pairing.proofs.Rules.{equal-fair, first-fair, repeats-made}
-use Rattle.pairs.specs.Search.{occurs, passes, next-pair, Takes, exhaust, so-far}
+use Rattle.pairing.proofs.LoweredHolders as step
+use Rattle.pairing.proofs.MadePairs.{fair-counts, made-length}
+use Rattle.pairing.proofs.FairPairs.{equal-fair, first-fair, repeats-made}
+use Rattle.pairs.specs.Search.{occurs, passes, next-pair, Takes, exhaust}
 
 -- ---- and-then
 

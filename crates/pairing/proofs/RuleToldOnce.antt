@@ -1,28 +1,26 @@
 -- The rules leave no choice: what they tell of a book's pairs is one list of pairs.
-use Prim.Native.Nat.{ℕ, zero, suc, _+_, _-_, _<_, _≤_, min}
+use Prim.Native.Nat.{ℕ, _+_, _-_, _<_, min}
 use mathlib.Core.Path.{_≡_, refl, sym, ap, subst, _∙_}
 use mathlib.Core.Bool.{Bool, true, false, _&&_, not, cond}
-use mathlib.Core.List.{List, [], _∷_, _++_}
-use mathlib.Core.Logic.{_⊎_, inl, inr, ⊎-elim}
+use mathlib.Core.List.{List}
+use mathlib.Core.Logic.{_⊎_, ⊎-elim}
 use lib.Dec.{ltb, eqb}
-use lib.ListN.{length, getD, set}
+use lib.ListN.{length}
 use native.Mathlib.Omega.{arith}
 use Rattle.std.proofs.shelf.Lists.{length-set}
 use Rattle.std.proofs.shelf.Sums.{getD-le-sumBy}
-use Rattle.std.proofs.shelf.Tests.{cases-order, and-parts, ltb-true, eq-eqb, le-ltb, eqb-true, not-true, true≢false}
+use Rattle.std.proofs.shelf.Tests.{cases-order, and-parts, ltb-true, eq-eqb, le-ltb, true≢false}
 use Rattle.book.specs.declared.records.Holder.{Holder}
 use Rattle.pairing.specs.declared.pair.Unpaired.{Unpaired}
 use Rattle.pairing.specs.declared.pair.Pair.{Pair}
 use Rattle.pairing.specs.declared.stage.Group.{Group}
-use Rattle.pairing.specs.declared.stage.Stage.{Stage}
 use Rattle.book.specs.Books.{Contents, Sound, holder, stands-before}
-use Rattle.order.specs.First.{Total}
-use Rattle.pairing.specs.Orders.{holder-leq, holder-open}
-use Rattle.pairing.specs.Pairing.{no-holder, key, side-in, less, lower, paired, in-groups, all-groups, pairs}
-use Rattle.pairing.specs.InWords.{at, bought, sold, Emptied, Stands-first, Largest-equal, First-two, None-equal, Equals, none-equal, equal, Firsts, one-side, first, Told, all-told, told, As-told}
-use Rattle.pairing.proofs.Steps.{lower-keeps}
+use Rattle.pairing.specs.Orders.{holder-open}
+use Rattle.pairing.specs.Pairing.{no-holder, key, lower, paired, in-groups, all-groups, pairs}
+use Rattle.pairing.specs.InWords.{at, Emptied, Stands-first, Largest-equal, First-two, None-equal, Equals, none-equal, equal, Firsts, one-side, first, Told, all-told, told, As-told}
+use Rattle.pairing.proofs.LoweredHolders.{lower-keeps}
 use Rattle.pairing.proofs.HolderOrder.{holder-order}
-use Rattle.pairing.proofs.Told.{book-told}
+use Rattle.pairing.proofs.RuleTold.{book-told}
 use Rattle.pairing.proofs.PairLaws.{rows, rows-length, row-is}
 
 -- No two places have the same member and number.

@@ -1,18 +1,15 @@
 -- The pairs of a book, told in the subject's words.
-use Prim.Native.Nat.{ℕ, zero, suc, _+_, _-_, _<_, _≤_}
-use mathlib.Core.Path.{_≡_, refl, sym, ap, subst, _∙_}
-use mathlib.Core.List.{List, [], _∷_, _++_}
-use Rattle.std.specs.declared.option.Option.{Option}
-use Rattle.std.specs.declared.option.Option.the-variants.{Some, None}
+use Prim.Native.Nat.{_-_}
+use mathlib.Core.List.{List}
 use Rattle.pairing.specs.declared.pair.Unpaired.{Unpaired}
 use Rattle.pairing.specs.declared.pair.Pair.{Pair}
 use Rattle.pairing.specs.declared.stage.Group.{Group}
 use Rattle.book.specs.Books.{Contents}
-use Rattle.pairing.specs.Pairing.{paired, equal-pair, first-pair, in-groups, all-groups, pairs}
-use Rattle.pairing.specs.InWords.{Equals, none-equal, equal, Firsts, one-side, first, Told, all-told, told, Emptied, Largest-equal, First-two, None-equal}
-use Rattle.pairing.proofs.PairWords.{Repeats, stop, more, In-group, equal-first, Paired, over, group}
-use Rattle.pairing.proofs.Rules.{no-pair-emptied}
-use Rattle.pairing.proofs.Choice.{equal-largest, equal-none, first-two}
+use Rattle.pairing.specs.Pairing.{equal-pair, first-pair, in-groups, all-groups, pairs}
+use Rattle.pairing.specs.InWords.{Equals, none-equal, equal, Firsts, one-side, first, Told, all-told, told}
+use Rattle.pairing.proofs.PairRelations.{Repeats, stop, more, equal-first, Paired, over, group}
+use Rattle.pairing.proofs.FairPairs.{no-pair-emptied}
+use Rattle.pairing.proofs.NextPair.{equal-largest, equal-none, first-two}
 use Rattle.pairing.proofs.PairLaws.{rows, in-groups-holds}
 
 equals-told : (g : Group) {hs : List Unpaired} {ps : List Pair} {ks : List Unpaired} → Repeats (equal-pair g) hs ps ks → Equals g hs ps ks

@@ -1,9 +1,9 @@
 -- The first holder that stands for the next pair is the first open one of the masked holders.
-use Prim.Native.Nat.{ℕ, _+_, _<_, _≤_, min}
-use mathlib.Core.Path.{_≡_, refl, sym, ap, subst, _∙_}
+use Prim.Native.Nat.{ℕ, _<_, min}
+use mathlib.Core.Path.{_≡_, refl, sym, ap, _∙_}
 use mathlib.Core.Bool.{Bool, true, false, not}
 use lib.Dec.{eqb}
-use mathlib.Core.List.{List, [], _∷_, map}
+use mathlib.Core.List.{List, map}
 use lib.ListN.{length, getD}
 use native.Mathlib.Omega.{arith}
 use Rattle.std.proofs.shelf.Lists.{getD-map, length-map}
@@ -11,10 +11,9 @@ use Rattle.std.proofs.shelf.Tests.{true≢false, and-parts}
 use Rattle.std.specs.declared.option.Option.{Option}
 use Rattle.std.specs.declared.option.Option.the-variants.{Some, None}
 use Rattle.std.specs.Slices.{found}
-use Rattle.order.specs.First.{First, FirstOpen, first, place-of}
+use Rattle.order.specs.First.{FirstOpen, first, place-of}
 use Rattle.pairing.specs.declared.pair.Unpaired.{Unpaired}
 use Rattle.pairing.specs.declared.stage.Group.{Group}
-use Rattle.pairing.specs.declared.pair.Pair.{Pair}
 use Rattle.pairing.specs.declared.stage.Stage.{Stage}
 use Rattle.pairing.specs.Orders.{holder-leq, holder-open}
 use Rattle.pairing.specs.Pairing.{key, no-holder, side-in, on-side, pair-of}

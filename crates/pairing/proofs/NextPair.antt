@@ -1,12 +1,11 @@
 -- Which pair a group makes next, in the subject's words.
-use Prim.Native.Nat.{ℕ, zero, suc, _+_, _-_, _<_, _≤_, min}
-use native.Mathlib.Nat.{min-eq-left, min-le-left, min-le-right}
+use Prim.Native.Nat.{ℕ, _-_, _<_, _≤_, min}
+use native.Mathlib.Nat.{min-eq-left}
 use mathlib.Core.Path.{_≡_, refl, sym, ap, subst, _∙_}
-use mathlib.Core.Bool.{Bool, true, false, _&&_, _||_, not, cond}
-use mathlib.Core.List.{List, [], _∷_}
-use mathlib.Core.Logic.{_⊎_, inl, inr, ⊎-elim}
-use lib.Dec.{ltb, eqb}
-use lib.ListN.{length, getD}
+use mathlib.Core.Bool.{Bool, true, false, _&&_}
+use mathlib.Core.List.{List}
+use lib.Dec.{eqb}
+use lib.ListN.{length}
 use native.Mathlib.Omega.{arith}
 use Rattle.std.proofs.shelf.Tests.{and-parts, and-from, eq-eqb, eqb-true, both-ways}
 use Rattle.std.specs.declared.option.Option.{Option}
@@ -14,10 +13,9 @@ use Rattle.std.specs.declared.option.Option.the-variants.{Some, None}
 use Rattle.pairing.specs.declared.pair.Unpaired.{Unpaired}
 use Rattle.pairing.specs.declared.pair.Pair.{Pair}
 use Rattle.pairing.specs.declared.stage.Group.{Group}
-use Rattle.pairing.specs.declared.stage.Stage.{Stage}
-use Rattle.order.specs.First.{Total, first, any}
+use Rattle.order.specs.First.{first}
 use Rattle.pairing.specs.Orders.{holder-leq}
-use Rattle.pairing.specs.Pairing.{no-holder, side-in, buys-in, sells-in, on-side, pair-of, first-pair, equal-pair}
+use Rattle.pairing.specs.Pairing.{no-holder, side-in, on-side, pair-of, first-pair, equal-pair}
 use Rattle.pairing.specs.InWords.{at, Stands-first, Largest-equal, First-two, None-equal}
 use Rattle.order.proofs.FirstIs.{first-some}
 use Rattle.order.proofs.FirstLeast.{any-has, has-any, first-least, none-first}

@@ -1,23 +1,21 @@
+-- What taking a pair off its two holders leaves.
 use Prim.Native.Nat.{ℕ, _+_, _-_, _<_, _≤_}
 use mathlib.Core.Path.{_≡_, refl, sym, ap, subst, _∙_}
-use mathlib.Core.Bool.{Bool, true, false, _&&_, not, cond}
-use mathlib.Core.List.{List, [], _∷_, _++_}
-use mathlib.Core.Logic.{_⊎_, inl, inr, _≢_, ⊎-elim}
-use lib.Dec.{ltb, eqb}
-use lib.ListN.{length, getD, set}
+use mathlib.Core.Bool.{Bool, true, false, cond}
+use mathlib.Core.List.{List}
+use mathlib.Core.Logic.{_⊎_, _≢_, ⊎-elim}
+use lib.Dec.{eqb}
+use lib.ListN.{length, getD}
 use native.Mathlib.Omega.{arith}
 use Rattle.std.proofs.shelf.Lists.{length-set, getD-set-same, getD-set-other}
-use Rattle.std.proofs.shelf.Sums.{sumBy-set, sumBy-cons}
-use Rattle.std.proofs.shelf.Tests.{true≢false, cases-bool, cases-eq, eq-eqb, ne-eqb}
-use Rattle.std.specs.shelf.Lists.{sumBy, All}
+use Rattle.std.proofs.shelf.Sums.{sumBy-set}
+use Rattle.std.proofs.shelf.Tests.{true≢false, cases-eq, eq-eqb, ne-eqb}
 use Rattle.pairing.specs.declared.pair.Unpaired.{Unpaired}
 use Rattle.pairing.specs.declared.pair.Pair.{Pair}
-use Rattle.pairing.specs.declared.stage.Group.{Group}
 use Rattle.pairing.specs.declared.stage.Stage.{Stage}
 use Rattle.pairing.specs.declared.stage.Stage.the-variants.{Member, Clearing, Agent, Whole}
 use Rattle.pairing.specs.Pairing.{key, less, lower, no-holder, paired}
-use Rattle.pairing.specs.InWords.{at, volume-of, bought, sold}
-use Rattle.pairing.proofs.PairWords.{contracts-of, Sides, Pairing, within, whole, Fair, Made, none, one}
+use Rattle.pairing.specs.InWords.{at, volume-of}
 
 -- ---- a part of a holder that does not change with its volume
 

@@ -1,24 +1,22 @@
+-- No pairing has more contracts within a group than its holders buy, or than they sell.
 use Prim.Native.Nat.{ℕ, _+_, _-_, _<_, _≤_}
-use mathlib.Core.Path.{_≡_, refl, sym, ap, subst, _∙_}
+use mathlib.Core.Path.{_≡_, refl, sym, ap, _∙_}
 use mathlib.Core.Bool.{Bool, true, false, _&&_, not, cond}
-use mathlib.Core.List.{List, [], _∷_, _++_}
-use mathlib.Core.Logic.{_⊎_, inl, inr, _≢_, ⊎-elim}
-use lib.Dec.{ltb, eqb}
-use lib.ListN.{length, getD, set}
+use mathlib.Core.List.{List, [], _∷_}
+use lib.Dec.{eqb}
+use lib.ListN.{length}
 use native.Mathlib.Omega.{arith}
-use Rattle.std.proofs.shelf.Sums.{sumBy-cons, sumBy-append}
+use Rattle.std.proofs.shelf.Sums.{sumBy-cons}
 use Rattle.std.proofs.shelf.Elements.{all-weaker}
-use Rattle.std.proofs.shelf.Tests.{true≢false, cases-bool, cases-eq, eq-eqb, ne-eqb}
-use Rattle.std.specs.shelf.Lists.{sumBy, All}
+use Rattle.std.proofs.shelf.Tests.{eq-eqb}
 use Rattle.pairing.specs.declared.pair.Unpaired.{Unpaired}
 use Rattle.pairing.specs.declared.pair.Pair.{Pair}
 use Rattle.pairing.specs.declared.stage.Group.{Group}
 use Rattle.pairing.specs.declared.stage.Stage.{Stage}
-use Rattle.pairing.specs.declared.stage.Stage.the-variants.{Member, Clearing, Agent, Whole}
-use Rattle.pairing.specs.Pairing.{key, less, lower, no-holder, paired}
+use Rattle.pairing.specs.Pairing.{key, less, paired}
 use Rattle.pairing.specs.InWords.{at, volume-of, bought, sold}
-use Rattle.pairing.proofs.PairWords.{contracts-of, Sides, Pairing, within, whole, Fair, Made, none, one}
-use Rattle.pairing.proofs.Steps.{key-less, paired-length, paired-keeps, paired-volume, paired-volume-of}
+use Rattle.pairing.proofs.PairRelations.{contracts-of, Sides, Pairing, within}
+use Rattle.pairing.proofs.LoweredHolders.{key-less, paired-length, paired-keeps, paired-volume, paired-volume-of}
 
 -- The first pair of a pairing taken away leaves a pairing of what is left.
 module _ (hs : List Unpaired) (p : Pair) (ps : List Pair) (all : Pairing hs (p ∷ ps)) where
