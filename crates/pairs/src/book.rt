@@ -5,6 +5,7 @@ ghost use mathlib.Core.List.{[]};
 ghost use Prim.Native.Nat.{_*_, _<_, _≤_};
 ghost use lib.ListN.{length};
 ghost use Rattle.std.specs.Vec.{made};
+ghost use Rattle.book.specs.Limits.{most-holders};
 ghost use Rattle.book.specs.Data.{contents};
 ghost use Rattle.pairing.specs.Lines.{added};
 ghost use Rattle.pairing.specs.Laws.{Notified, Lawful};
@@ -84,7 +85,7 @@ pub fn hand_out(book: &Book, records: &mut [SellerLots]) -> Result<(), PairingFa
 // Pairs a book without notices, with a table of records that are all empty.
 fn pair_from_empty(book: &Book, records: &mut [SellerLots], lines: &mut [Line]) -> Result<usize, PairingFault>
     requires empty { ⌜ all-empty (now records) ≡ true ⌝ }
-    requires room { ⌜ 256 ≤ length (now records) ⌝ }
+    requires room { ⌜ most-holders ≤ length (now records) ⌝ }
     ensures answers_the_count { λ r. ⌜ r ≡ pair-answer (contents (now (book .entry))) (added (contents (now (book .entry))) []) (now (lines .entry)) ⌝ }
     ensures lines_as_defined { λ _. ⌜ now (lines .exit) ≡ pair-leaves (contents (now (book .entry))) (added (contents (now (book .entry))) []) (now (lines .entry)) ⌝ }
     ensures count_within_the_table { λ r. ⌜ made r (λ n. n ≤ length (now (lines .entry))) ⌝ }

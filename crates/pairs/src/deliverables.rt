@@ -3,6 +3,7 @@ ghost use mathlib.Core.Path.{_≡_};
 ghost use mathlib.Core.Bool.{true};
 ghost use Prim.Native.Nat.{_≤_};
 ghost use lib.ListN.{length};
+ghost use Rattle.book.specs.Limits.{most-assets};
 ghost use Rattle.order.specs.First.{first};
 ghost use Rattle.book.specs.Books.{invoice-of};
 ghost use Rattle.book.specs.Data.{contents};
@@ -26,7 +27,7 @@ fn deliverable(price: u32, asset: u8, x: &Asset) -> Deliverable
 
 // All assets with their numbers and prices.
 fn list_all(price: u32, assets: &[Asset], out: &mut [Deliverable])
-    requires { ⌜ length (now out) ≡ length (now assets) ⌝ ∗ ⌜ length (now assets) ≤ 4 ⌝ }
+    requires { ⌜ length (now out) ≡ length (now assets) ⌝ ∗ ⌜ length (now assets) ≤ most-assets ⌝ }
     ensures { λ _. ⌜ now (out .exit) ≡ deliverables price 0 (now (assets .entry)) ⌝ }
 {
     for i in 0..assets.len() {
@@ -36,7 +37,7 @@ fn list_all(price: u32, assets: &[Asset], out: &mut [Deliverable])
 
 // The number of the first deliverable, with a table to list them in.
 fn first_on(price: u32, assets: &[Asset], table: &mut [Deliverable]) -> u8
-    requires { ⌜ length (now assets) ≤ length (now table) ⌝ ∗ ⌜ length (now assets) ≤ 4 ⌝ }
+    requires { ⌜ length (now assets) ≤ length (now table) ⌝ ∗ ⌜ length (now assets) ≤ most-assets ⌝ }
     ensures value { λ r. ⌜ r ≡ place-or-0 (first deliverable-leq (λ _. true) (deliverables price 0 (now (assets .entry)))) ⌝ }
 {
     let list = &mut table[0..assets.len()];

@@ -5,6 +5,8 @@ ghost use mathlib.Core.List.{[]};
 ghost use Prim.Native.Nat.{_+_, _-_, _*_, _<_, _≤_};
 ghost use lib.ListN.{length, take, drop};
 ghost use Rattle.std.specs.shelf.Lists.{All};
+ghost use Rattle.book.specs.Limits.{most-assets, most-holders};
+ghost use Rattle.pairing.specs.Laws.{places-a-holder};
 ghost use Rattle.pairing.specs.Lines.{total, of-seller, add-line, fresh, lines-of-pair, lines-of-pairs};
 ghost use Rattle.pairs.specs.Records.{held, lots-from};
 use crate::lots::SellerLots;
@@ -13,7 +15,7 @@ use pairing::pair::Pair;
 
 // The lot of the holder at a place for an asset; nothing where there is no record.
 fn lot_of(lots: &[SellerLots], place: usize, asset: u8) -> u32
-    requires { ⌜ asset < 4 ⌝ }
+    requires { ⌜ asset < most-assets ⌝ }
     ensures { λ r. ⌜ r ≡ held (now (lots .entry)) place asset ⌝ }
 {
     if place < lots.len() { lots[place].lots[asset as usize] } else { 0 }
@@ -39,8 +41,8 @@ fn less_lines(lot: u32, lines: &[Line], row: u16, asset: u8) -> u32
 
 // What the first lines leave of the lot of the seller at a place for an asset.
 fn left_of(lots: &[SellerLots], lines: &[Line], count: usize, seller: usize, asset: u8) -> u32
-    requires few_assets { ⌜ asset < 4 ⌝ }
-    requires near { ⌜ seller < 65535 ⌝ }
+    requires few_assets { ⌜ asset < most-assets ⌝ }
+    requires near { ⌜ seller < most-holders ⌝ }
     requires room { ⌜ count ≤ length (now lines) ⌝ }
     ensures { λ r. ⌜ r ≡ held (now (lots .entry)) seller asset - total (of-seller (seller + 1) asset) (λ l. l .contracts) (take count (now (lines .entry))) ⌝ }
 {
@@ -50,7 +52,7 @@ fn left_of(lots: &[SellerLots], lines: &[Line], count: usize, seller: usize, ass
 
 // A line of a pair in an asset, with nothing taken yet.
 fn fresh_line(p: Pair, asset: u8, contracts: u32) -> Line
-    requires { ⌜ p .buyer < 65535 ⌝ ∗ ⌜ p .seller < 65535 ⌝ }
+    requires { ⌜ p .buyer < most-holders ⌝ ∗ ⌜ p .seller < most-holders ⌝ }
     ensures { λ r. ⌜ r ≡ fresh p asset contracts ⌝ }
 {
     let buyer = (p.buyer + 1) as u16;
@@ -74,8 +76,8 @@ fn add(lines: &mut [Line], count: usize, line: Line) -> usize
 
 // Writes the lines of a pair: it uses up the seller's lots, lowest asset first.
 fn add_pair(lots: &[SellerLots], assets: u8, p: Pair, lines: &mut [Line], made: usize) -> usize
-    requires few_assets { ⌜ assets ≤ 4 ⌝ }
-    requires near { ⌜ p .buyer < 65535 ⌝ ∗ ⌜ p .seller < 65535 ⌝ }
+    requires few_assets { ⌜ assets ≤ most-assets ⌝ }
+    requires near { ⌜ p .buyer < most-holders ⌝ ∗ ⌜ p .seller < most-holders ⌝ }
     requires room { ⌜ made + assets ≤ length (now lines) ⌝ }
     ensures by_the_rule { λ r. ⌜ take r (now (lines .exit)) ≡ lines-of-pair (lots-from assets 1 (now (lots .entry))) p assets 0 (p .contracts) (take made (now (lines .entry))) ⌝ }
     ensures later_places_stay { λ r. ⌜ drop r (now (lines .exit)) ≡ drop r (now (lines .entry)) ⌝ }
@@ -93,12 +95,12 @@ fn add_pair(lots: &[SellerLots], assets: u8, p: Pair, lines: &mut [Line], made: 
 
 // Writes the lines of pairs, in the order made, from the first place on.
 pub(crate) fn add_pairs(pairs: &[Pair], lots: &[SellerLots], assets: u8, lines: &mut [Line]) -> usize
-    requires few_assets { ⌜ assets ≤ 4 ⌝ }
-    requires near { ⌜ All (λ p. (p .buyer < 65535) × (p .seller < 65535)) (now pairs) ⌝ }
-    requires room { ⌜ 4 * length (now pairs) ≤ length (now lines) ⌝ }
+    requires few_assets { ⌜ assets ≤ most-assets ⌝ }
+    requires near { ⌜ All (λ p. (p .buyer < most-holders) × (p .seller < most-holders)) (now pairs) ⌝ }
+    requires room { ⌜ places-a-holder * length (now pairs) ≤ length (now lines) ⌝ }
     ensures by_the_rule { λ r. ⌜ take r (now (lines .exit)) ≡ lines-of-pairs (lots-from assets 1 (now (lots .entry))) assets (now (pairs .entry)) [] ⌝ }
     ensures later_places_stay { λ r. ⌜ drop r (now (lines .exit)) ≡ drop r (now (lines .entry)) ⌝ }
-    ensures room { λ r. ⌜ r ≤ 4 * length (now (pairs .entry)) ⌝ }
+    ensures room { λ r. ⌜ r ≤ places-a-holder * length (now (pairs .entry)) ⌝ }
 {
     let mut count = 0;
     for p in pairs {

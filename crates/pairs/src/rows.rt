@@ -3,6 +3,8 @@ ghost use mathlib.Core.Path.{_≡_};
 ghost use mathlib.Core.List.{map, []};
 ghost use Prim.Native.Nat.{_*_, _≤_};
 ghost use lib.ListN.{length, take, drop};
+ghost use Rattle.book.specs.Limits.{most-assets, most-holders};
+ghost use Rattle.pairing.specs.Laws.{places-a-holder};
 ghost use Rattle.pairing.specs.Pairing.{in-groups, all-groups, unpaired};
 ghost use Rattle.pairing.specs.Lines.{lines-of-pairs};
 ghost use Rattle.pairs.specs.Records.{lots-from};
@@ -53,12 +55,12 @@ fn pair_on(holders: &[Holder], table: &mut [Unpaired], standing: &mut [Unpaired]
 
 // The lines of the rows, with the tables to work on.
 fn lines_on(holders: &[Holder], assets: u8, lots: &[SellerLots], table: &mut [Unpaired], standing: &mut [Unpaired], pairs: &mut [Pair], lines: &mut [Line]) -> usize
-    requires few { ⌜ length (now holders) ≤ 256 ⌝ ∗ ⌜ assets ≤ 4 ⌝ }
+    requires few { ⌜ length (now holders) ≤ most-holders ⌝ ∗ ⌜ assets ≤ most-assets ⌝ }
     requires places { ⌜ length (now holders) ≤ length (now table) ⌝ ∗ ⌜ length (now holders) ≤ length (now standing) ⌝ ∗ ⌜ length (now holders) ≤ length (now pairs) ⌝ }
-    requires room { ⌜ 4 * length (now holders) ≤ length (now lines) ⌝ }
+    requires room { ⌜ places-a-holder * length (now holders) ≤ length (now lines) ⌝ }
     ensures by_the_rule { λ r. ⌜ take r (now (lines .exit)) ≡ lines-of-pairs (lots-from assets 1 (now (lots .entry))) assets (in-groups all-groups (map unpaired (now (holders .entry))) .0) [] ⌝ }
     ensures later_places_stay { λ r. ⌜ drop r (now (lines .exit)) ≡ drop r (now (lines .entry)) ⌝ }
-    ensures room { λ r. ⌜ r ≤ 4 * length (now (holders .entry)) ⌝ }
+    ensures room { λ r. ⌜ r ≤ places-a-holder * length (now (holders .entry)) ⌝ }
 {
     let made = pair_on(holders, table, standing, pairs);
     add_pairs(&pairs[0..made], lots, assets, lines)
@@ -66,11 +68,11 @@ fn lines_on(holders: &[Holder], assets: u8, lots: &[SellerLots], table: &mut [Un
 
 // The lines of the rows of a book with so many assets, into a table with four places a holder.
 pub(crate) fn lines_of_rows(holders: &[Holder], assets: u8, lots: &[SellerLots], lines: &mut [Line]) -> usize
-    requires few { ⌜ length (now holders) ≤ 256 ⌝ ∗ ⌜ assets ≤ 4 ⌝ }
-    requires room { ⌜ 4 * length (now holders) ≤ length (now lines) ⌝ }
+    requires few { ⌜ length (now holders) ≤ most-holders ⌝ ∗ ⌜ assets ≤ most-assets ⌝ }
+    requires room { ⌜ places-a-holder * length (now holders) ≤ length (now lines) ⌝ }
     ensures by_the_rule { λ r. ⌜ take r (now (lines .exit)) ≡ lines-of-pairs (lots-from assets 1 (now (lots .entry))) assets (in-groups all-groups (map unpaired (now (holders .entry))) .0) [] ⌝ }
     ensures later_places_stay { λ r. ⌜ drop r (now (lines .exit)) ≡ drop r (now (lines .entry)) ⌝ }
-    ensures room { λ r. ⌜ r ≤ 4 * length (now (holders .entry)) ⌝ }
+    ensures room { λ r. ⌜ r ≤ places-a-holder * length (now (holders .entry)) ⌝ }
 {
     let mut table = [NO_HOLDER; MOST_HOLDERS];
     let mut standing = [NO_HOLDER; MOST_HOLDERS];

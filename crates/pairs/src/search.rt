@@ -5,6 +5,7 @@ ghost use mathlib.Core.List.{map};
 ghost use Prim.Native.Nat.{_+_, _-_, _<_, _≤_};
 ghost use lib.ListN.{length, take};
 ghost use Rattle.std.specs.Slices.{found};
+ghost use Rattle.book.specs.Limits.{most-member};
 ghost use Rattle.order.specs.First.{first, place-of};
 ghost use Rattle.pairing.specs.Orders.{holder-leq};
 ghost use Rattle.pairing.specs.Pairing.{key, side-in, on-side, paired, in-group, in-groups, numbered, all-groups, and-then};
@@ -181,7 +182,7 @@ fn pair_group(holders: &mut [Unpaired], standing: &mut [Unpaired], group: Group,
 
 // The group of a stage that comes after k others.
 fn group_after(stage: Stage, k: u16) -> Group
-    requires { ⌜ k < 999 ⌝ }
+    requires { ⌜ k < most-member ⌝ }
     ensures { λ r. ⌜ r ≡ record { stage = stage; number = k + 1 } ⌝ }
 {
     Group { stage, number: k + 1 }
@@ -189,7 +190,7 @@ fn group_after(stage: Stage, k: u16) -> Group
 
 // The groups of a stage in ascending number, up to the highest.
 fn pair_stage(holders: &mut [Unpaired], standing: &mut [Unpaired], stage: Stage, highest: u16, pairs: &mut [Pair], made: usize) -> usize
-    requires few { ⌜ highest ≤ 999 ⌝ }
+    requires few { ⌜ highest ≤ most-member ⌝ }
     requires scratch { ⌜ length (now standing) ≡ length (now holders) ⌝ }
     requires room { ⌜ made + open-count (now holders) ≤ length (now pairs) ⌝ }
     ensures by_the_rule { λ r. ⌜ so-far (now (pairs .exit)) r (now (holders .exit)) ≡ and-then (so-far (now (pairs .entry)) made (now (holders .entry))) (in-groups (numbered stage 1 highest)) ⌝ }

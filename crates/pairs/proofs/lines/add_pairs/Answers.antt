@@ -12,7 +12,7 @@ use Rattle.pairs.proofs.lines.add_pairs.Needs as need
 
 pub add-pair-count-requires : need.add-pair-count-requires
 add-pair-count-requires c κs =
-  let near = all-getD (λ (p : Pair). (p .buyer < 65535) × (p .seller < 65535)) (c .args .pairs .now) (c .loop-p .p-index) no-pair (c .loop-p-test .taken) (c .pre .near) in
+  let near = all-getD (λ (p : Pair). (p .buyer < 256) × (p .seller < 256)) (c .args .pairs .now) (c .loop-p .p-index) no-pair (c .loop-p-test .taken) (c .pre .near) in
   record
     { few-assets = c .pre .few-assets
     ; near = near

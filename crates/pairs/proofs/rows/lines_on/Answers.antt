@@ -22,10 +22,10 @@ add-pairs-requires c κs =
   let hs = map unpaired (c .args .holders .now) in
   let is = part-is (c .pair-on-made .result) (c .pair-on-made .last .pairs) (in-groups all-groups hs .0) (c .pair-on-made .ensures .by-the-rule) in
   let same = rows-length (c .args .holders .now) in
-  let Near : List Pair → Type 0 = λ ps. All (λ (p : Pair). (p .buyer < 65535) × (p .seller < 65535)) ps in
+  let Near : List Pair → Type 0 = λ ps. All (λ (p : Pair). (p .buyer < 256) × (p .seller < 256)) ps in
   record
     { few-assets = c .pre .few .1
-    ; near = subst Near (sym is) (pairs-near all-groups hs 65535 (omega (arith, same, c .pre .few .0)))
+    ; near = subst Near (sym is) (pairs-near all-groups hs 256 (omega (arith, same, c .pre .few .0)))
     ; room = omega (arith, ap length is, pairs-few all-groups hs, same, c .pre .room) }
 
 pub returns : need.returns
