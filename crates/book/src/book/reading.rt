@@ -31,8 +31,7 @@ impl Book {
         Ok(Book { terms, assets, holders })
     }
 
-    // Becomes the book of this file; where the file is refused, or there is no memory, the empty book.
-    pub fn read(&mut self, heap: Global, file: &[u8]) -> Result<(), ReadFault>
+    fn become_book_of(&mut self, heap: Global, file: &[u8]) -> Result<(), ReadFault>
         ensures by_the_definition { λ r. ⌜ Reads r (reading (now (file .entry))) (contents (now (self .exit))) ⌝ }
         ensures accepts_exactly_the_texts_of_books { λ r. ⌜ Accepts-exactly-texts r (now (file .entry)) (contents (now (self .exit))) ⌝ }
     {
@@ -46,5 +45,13 @@ impl Book {
                 Err(e)
             }
         }
+    }
+
+    // Becomes the book of this file; where the file is refused, or there is no memory, the empty book.
+    pub fn read(&mut self, heap: Global, file: &[u8]) -> Result<(), ReadFault>
+        ensures by_the_definition { λ r. ⌜ Reads r (reading (now (file .entry))) (contents (now (self .exit))) ⌝ }
+        ensures accepts_exactly_the_texts_of_books { λ r. ⌜ Accepts-exactly-texts r (now (file .entry)) (contents (now (self .exit))) ⌝ }
+    {
+        self.become_book_of(heap, file)
     }
 }

@@ -1,7 +1,7 @@
 use mathlib.Core.Path.{_≡_, ap, _∙_}
 use Rattle.book.specs.Books.{row-among}
 use Rattle.book.proofs.RowOf.{one-row}
-use Rattle.book.proofs.book.Book.row_of.Needs as need
+use Rattle.book.proofs.book.Book.row_with.Needs as need
 
 pub returns : need.returns
 returns c =

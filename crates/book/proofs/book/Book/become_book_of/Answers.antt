@@ -3,7 +3,7 @@ use borrow.Author.Needs.{needs}
 use Rattle.book.specs.Data.{contents}
 use Rattle.book.proofs.OneFile.{accepts-read, accepts-refused}
 use Rattle.book.proofs.ReadsEmpty.{refused-leaves}
-use Rattle.book.proofs.book.Book.read.Needs as need
+use Rattle.book.proofs.book.Book.become_book_of.Needs as need
 
 pub returns-in-Ok : need.returns-in-Ok
 returns-in-Ok c = record {

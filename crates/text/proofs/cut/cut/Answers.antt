@@ -4,7 +4,7 @@ use native.Mathlib.Omega.{arith}
 use lib.ListN.{length, take, drop}
 use Rattle.text.specs.Parts.{stop}
 use Rattle.text.proofs.Scans.{stop-here, stop-next, stop-end}
-use Rattle.text.proofs.cut.step.Needs as need
+use Rattle.text.proofs.cut.cut.Needs as need
 
 pub returns-then-x-separator : need.returns-then-x-separator
 returns-then-x-separator c =

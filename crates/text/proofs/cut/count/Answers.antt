@@ -1,7 +1,7 @@
 use native.Mathlib.Omega.{arith}
 use Rattle.text.proofs.PartsAt.{parts-here, parts-next, parts-end}
-use Rattle.text.proofs.cut.separators.Needs as need
-use Rattle.text.proofs.cut.separators.Needs.{then-b-separator, else-b-separator}
+use Rattle.text.proofs.cut.count.Needs as need
+use Rattle.text.proofs.cut.count.Needs.{then-b-separator, else-b-separator}
 
 pub loop-b-again : need.loop-b-again
 loop-b-again c =
