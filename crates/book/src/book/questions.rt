@@ -116,7 +116,11 @@ impl Book {
         ensures value { λ r. ⌜ r ≡ invoice (contents (now (self .entry))) asset ⌝ }
     {
         let assets = self.assets.as_slice();
-        if asset < assets.len() { assets[asset].invoice_price(self.terms.price) } else { 0 }
+        if asset < assets.len() {
+            assets[asset].invoice_price(self.terms.price)
+        } else {
+            0
+        }
     }
 
     // The invoice price of an asset in centavos a unit; 0 where the book has no such asset.
