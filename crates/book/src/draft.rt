@@ -273,7 +273,7 @@ fn is_of(line: &[u8], kind: &[u8]) -> bool
 }
 
 impl Draft {
-    pub fn new(heap: Global) -> Draft
+    fn new(heap: Global) -> Draft
         ensures nothing_read { λ r. ⌜ draft-of r ≡ start ⌝ }
     {
         Draft {
@@ -384,7 +384,7 @@ impl Draft {
     }
 
     // One line more: `number` is its number, and `ended` tells whether a line end follows it.
-    pub fn take_line(
+    fn take_line(
         &mut self,
         heap: Global,
         line: &[u8],
@@ -415,7 +415,7 @@ impl Draft {
 }
 
 // Contracts bought and contracts sold.
-pub fn traded(holders: &[Holder]) -> (u64, u64)
+pub(crate) fn traded(holders: &[Holder]) -> (u64, u64)
     requires { ⌜ length (now holders) ≤ most-holders ⌝ }
     ensures bought { λ r. ⌜ r .0 ≡ sumBy (λ h. cond (buysOf h) (volumeOf h) 0) (now (holders .entry)) ⌝ }
     ensures sold { λ r. ⌜ r .1 ≡ sumBy (λ h. cond (sellsOf h) (volumeOf h) 0) (now (holders .entry)) ⌝ }
@@ -459,7 +459,7 @@ fn read_lines(heap: Global, file: &[u8]) -> Result<Draft, ReadFault>
 }
 
 // Reads a whole file, up to what its holders add up to.
-pub fn read_file(heap: Global, file: &[u8]) -> Result<Draft, ReadFault>
+pub(crate) fn read_file(heap: Global, file: &[u8]) -> Result<Draft, ReadFault>
     ensures by_the_definition { λ r. ⌜ Gives (λ d. draft-of d .book) r (reading (now (file .entry))) ⌝ }
 {
     if file.len() > MOST_BYTES {
