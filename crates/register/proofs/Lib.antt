@@ -1,0 +1,4 @@
+pub mod Sums
+pub mod Tables
+pub mod Makes
+pub mod Meanings
