@@ -16,6 +16,10 @@ pub refused-keeps : {F X : Type 0} (refused : Option F) (fault : F) (new old : X
 refused-keeps None fault new old e = let z : _≡_ {A = ℕ} 0 1 = cc in absurd (omega arith)
 refused-keeps (Some _) fault new old e = refl
 
+pub accepted-none : {F : Type 0} (refused : Option F) → Ok tt ≡ answer refused → refused ≡ None
+accepted-none None e = refl
+accepted-none (Some fault) e = let z : _≡_ {A = ℕ} 0 1 = cc in absurd (omega arith)
+
 -- what is so where a credit is accepted
 pub record Credit-told (m : Meaning) (account asset amount : ℕ) : Type 0 where
   pub account-known : account < m .accounts

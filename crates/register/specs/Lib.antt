@@ -5,3 +5,5 @@ pub mod Table
 pub mod Lawful
 pub mod Make
 pub mod TableMeaning
+pub mod Instructions
+pub mod Deliveries

@@ -6,3 +6,7 @@ pub mod transfers;
 pub mod checks;
 pub mod issues;
 pub mod table;
+pub mod instruction;
+pub mod carrying;
+pub mod terms;
+pub mod delivery;
