@@ -11,11 +11,11 @@ use Rattle.std.proofs.shelf.Lists.{take-more-set, drop-set-add}
 use Rattle.std.proofs.shelf.Tests.{and-from, cases-bool, cases-eq}
 use Rattle.std.proofs.shelf.Ways.{tells}
 use Rattle.register.specs.Rules.{sum-to, most, moved, credited, raised}
-use Rattle.register.specs.Table.{cell, issued, Bounded}
+use Rattle.table_register.specs.Table.{cell, issued, Bounded}
 use Rattle.register.proofs.Sums.{sum-ext, sum-credited, sum-moved}
-use Rattle.register.proofs.Tables.{issued-set, issued-in}
+use Rattle.table_register.proofs.Tables.{issued-set, issued-in}
 use Rattle.day_book.specs.declared.entry.Entry.{Entry}
-use Rattle.day_book.specs.Entering.{apply, apply-all, fits, all-fit, pending, blank}
+use Rattle.day_book.specs.Entering.{apply, added, apply-all, fits, all-fit, pending, blank}
 use Rattle.day_book.specs.DayTable.{day-cell, DayCovered}
 use Rattle.day_book.proofs.Applies.{all-fit-append, apply-push}
 use Rattle.day_book.proofs.Posts.{fit-taker, fit-asset, fit-giver, fit-apart, fit-amount}
@@ -29,10 +29,6 @@ pending-push table first count e le lt =
     ∙ ap (λ k. take ((count - first) + 1) (drop first (set table k e))) back
     ∙ ap (take ((count - first) + 1)) (drop-set-add first table (count - first) e)
     ∙ take-more-set (drop first table) (count - first) e (omega (arith, len))
-
--- what an accepted entry adds to the issue
-abbrev pub added : Entry → ℕ
-added e = cond (e .credit) (e .amount) 0
 
 pub sum-apply : (accounts assets : ℕ) (b : ℕ → ℕ → ℕ) (e : Entry) (s : ℕ) → fits accounts assets (b (e .giver) (e .asset)) e ≡ true → sum-to (λ a. apply e a s (b a s)) accounts ≡ sum-to (λ a. b a s) accounts + cond (eqb s (e .asset)) (added e) 0
 sum-apply accounts assets b e s ok =

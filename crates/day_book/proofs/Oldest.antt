@@ -5,7 +5,7 @@ use mathlib.Core.Bool.{true}
 use mathlib.Core.List.{List, _∷_}
 use lib.ListN.{length, getD}
 use native.Mathlib.Omega.{arith}
-use Rattle.register.specs.Table.{cell}
+use Rattle.table_register.specs.Table.{cell}
 use Rattle.day_book.specs.declared.entry.Entry.{Entry}
 use Rattle.day_book.specs.declared.day.DayBook.{DayBook}
 use Rattle.day_book.specs.Entering.{fits, all-fit, pending, blank}

@@ -11,9 +11,9 @@ use Rattle.std.proofs.shelf.Lists.{take-more, drop-more, getD-drop, getD-set-sa
 use Rattle.std.proofs.shelf.Tests.{and-parts, and-from, cases-eq, cond-true, lt-ltb}
 use Rattle.std.proofs.shelf.Ways.{tells}
 use Rattle.register.specs.Rules.{sum-to, most, moved, credited}
-use Rattle.register.specs.Table.{cell, issued, Bounded}
+use Rattle.table_register.specs.Table.{cell, issued, Bounded}
 use Rattle.register.proofs.Sums.{sum-ext, sum-le, at-most-sum}
-use Rattle.register.proofs.Tables.{credit-cell, put-cell, held-in, cell-in}
+use Rattle.table_register.proofs.Tables.{credit-cell, put-cell, held-in, cell-in}
 use Rattle.day_book.specs.declared.entry.Entry.{Entry}
 use Rattle.day_book.specs.Entering.{apply, apply-all, fits, all-fit, pending, blank}
 use Rattle.day_book.specs.DayTable.{day-cell, DayCovered, Later-places-stay}

@@ -7,7 +7,7 @@ use lib.Dec.{ltb, leb, eqb}
 use Rattle.std.proofs.shelf.Tests.{and-parts, ltb-true}
 use Rattle.std.proofs.shelf.Ways.{tells}
 use Rattle.register.specs.Rules.{Meaning}
-use Rattle.register.specs.Table.{cell, Covered}
+use Rattle.table_register.specs.Table.{cell, Covered}
 use Rattle.register.proofs.Sums.{sum-ext}
 use lib.ListN.{length, getD, take, drop, length-drop}
 use lib.Seq.{ext-getD, length-take-le, getD-take, getD-drop}

@@ -7,7 +7,7 @@ use lib.Dec.{ltb}
 use lib.ListN.{length, getD}
 use Rattle.std.proofs.shelf.Tests.{le-ltb, and-left, and-right, cond-false}
 use Rattle.register.specs.Rules.{sum-to, Lawful, Meaning}
-use Rattle.register.specs.Table.{cell, issued, Bounded}
+use Rattle.table_register.specs.Table.{cell, issued, Bounded}
 use Rattle.day_book.specs.declared.entry.Entry.{Entry}
 use Rattle.day_book.specs.declared.entries.Entries.{Entries}
 use Rattle.day_book.specs.Entering.{apply-all, pending}

@@ -28,7 +28,11 @@ apply e account asset held =
   (credited (λ a s. held) (e .taker) (e .asset) (e .amount) account asset)
   (moved (λ a s. held) (e .giver) (e .taker) (e .asset) (e .amount) account asset)
 
--- And after all of them, the oldest first.
+-- What an entry adds to the issue of its asset.
+abbrev pub added : Entry → ℕ
+added e = cond (e .credit) (e .amount) 0
+
+-- The balance after all entries, the oldest first.
 abbrev pub apply-all : List Entry → ℕ → ℕ → ℕ → ℕ
 apply-all [] account asset held = held
 apply-all (e ∷ es) account asset held = apply-all es account asset (apply e account asset held)

@@ -4,7 +4,7 @@ ghost use mathlib.Core.Path.{_≡_};
 ghost use mathlib.Core.Bool.{true};
 ghost use Prim.Native.Nat.{_*_, _≤_};
 ghost use lib.ListN.{length};
-ghost use Rattle.register.specs.Table.{cell, Bounded};
+ghost use Rattle.table_register.specs.Table.{cell, Bounded};
 ghost use Rattle.day_book.specs.Entering.{all-fit};
 ghost use Rattle.day_book.specs.DayTable.{DayCovered, waits};
 use crate::entries::Entries;

@@ -1,6 +1,6 @@
 // The entries that wait in a day book.
 ghost use mathlib.Core.Path.{_≡_};
-ghost use Prim.Native.Nat.{_+_, _<_, _≤_};
+ghost use Prim.Native.Nat.{_+_, _-_, _<_, _≤_};
 ghost use lib.ListN.{length};
 ghost use Rattle.day_book.specs.Entering.{apply-all, pending};
 use crate::entry::Entry;
@@ -28,7 +28,23 @@ impl Entries {
         value
     }
 
-    // Lets the oldest go, and moves the others up.
+    // Moves all but the oldest up by one place.
+    fn move_up(&mut self)
+        requires some { ⌜ 0 < now self .count ⌝ }
+        requires few { ⌜ now self .count ≤ 64 ⌝ }
+        requires long { ⌜ now self .count ≤ length (now self .table) ⌝ }
+        ensures rest { λ _. ⌜ pending (now (self .exit) .table) 0 (now (self .entry) .count - 1) ≡ pending (now (self .entry) .table) 1 (now (self .entry) .count) ⌝ }
+        ensures count { λ _. ⌜ now (self .exit) .count ≡ now (self .entry) .count ⌝ }
+        ensures long { λ _. ⌜ length (now (self .exit) .table) ≡ length (now (self .entry) .table) ⌝ }
+    {
+        let count = self.count;
+        for i in 1..count {
+            let e = self.table[i];
+            self.table[i - 1] = e;
+        }
+    }
+
+    // Lets the oldest go.
     pub(crate) fn drop_first(&mut self)
         requires some { ⌜ 0 < now self .count ⌝ }
         requires few { ⌜ now self .count ≤ 64 ⌝ }
@@ -38,10 +54,7 @@ impl Entries {
         ensures long { λ _. ⌜ length (now (self .exit) .table) ≡ length (now (self .entry) .table) ⌝ }
     {
         let count = self.count;
-        for i in 1..count {
-            let e = self.table[i];
-            self.table[i - 1] = e;
-        }
+        self.move_up();
         self.count = count - 1;
     }
 }

@@ -1,9 +1,5 @@
 pub mod Faults
 pub mod Rules
 pub mod Registers
-pub mod Table
-pub mod Lawful
-pub mod Make
-pub mod TableMeaning
 pub mod Instructions
 pub mod Deliveries

@@ -31,10 +31,10 @@ fn same_answer(a: Result<(), RegisterFault>, b: Result<(), RegisterFault>) -> bo
 }
 
 fn carry_out_each<A: Transfers, B: Transfers>(first: &mut A, second: &mut B, instructions: &[Instruction]) -> bool
-    ensures alike { λ r. ⌜ r ≡ all-alike (meaning A·Balances (now (first .entry))) (meaning B·Balances (now (second .entry))) (now (instructions .entry)) ⌝ }
-    ensures first { λ _. ⌜ meaning A·Balances (now (first .exit)) ≡ after-all (meaning A·Balances (now (first .entry))) (now (instructions .entry)) ⌝ }
-    ensures second { λ _. ⌜ meaning B·Balances (now (second .exit)) ≡ after-all (meaning B·Balances (now (second .entry))) (now (instructions .entry)) ⌝ }
-    ensures lenders { λ _. ⌜ (A·Balances .lender (now (first .exit)) ≡ A·Balances .lender (now (first .entry))) × (B·Balances .lender (now (second .exit)) ≡ B·Balances .lender (now (second .entry))) ⌝ }
+    ensures answers_by_the_rules { λ r. ⌜ r ≡ all-alike (meaning A·Balances (now (first .entry))) (meaning B·Balances (now (second .entry))) (now (instructions .entry)) ⌝ }
+    ensures meaning_follows_the_rules { λ _. ⌜ (meaning A·Balances (now (first .exit)) ≡ after-all (meaning A·Balances (now (first .entry))) (now (instructions .entry))) × (meaning B·Balances (now (second .exit)) ≡ after-all (meaning B·Balances (now (second .entry))) (now (instructions .entry))) ⌝ }
+    ensures one_meaning_one_answer { λ r. ⌜ (meaning A·Balances (now (first .entry)) ≡ meaning B·Balances (now (second .entry)) → (r ≡ true) × (meaning A·Balances (now (first .exit)) ≡ meaning B·Balances (now (second .exit)))) ⌝ }
+    ensures memory_is_kept { λ _. ⌜ (A·Balances .lender (now (first .exit)) ≡ A·Balances .lender (now (first .entry))) × (B·Balances .lender (now (second .exit)) ≡ B·Balances .lender (now (second .entry))) ⌝ }
 {
     let mut same = true;
     for instruction in instructions {

@@ -34,8 +34,7 @@ fn exchange<S: Transfers, C: Transfers>(securities: &mut S, cash: &mut C, delive
     let _ = cash.transfer(delivery.payer, delivery.payee, delivery.currency, delivery.amount);
 }
 
-// Moves the units to the buyer and the money to the payee, or neither: both are checked before either is moved.
-pub fn deliver_against_payment<S: Transfers, C: Transfers>(securities: &mut S, cash: &mut C, delivery: Delivery) -> Result<(), DeliveryFault>
+fn deliver<S: Transfers, C: Transfers>(securities: &mut S, cash: &mut C, delivery: Delivery) -> Result<(), DeliveryFault>
     ensures answers_by_the_rules { λ r. ⌜ r ≡ answer (delivery-refused (meaning S·Balances (now (securities .entry))) (meaning C·Balances (now (cash .entry))) delivery) ⌝ }
     ensures meaning_follows_the_rules { λ _. ⌜ (meaning S·Balances (now (securities .exit)) ≡ securities-after (meaning S·Balances (now (securities .entry))) (meaning C·Balances (now (cash .entry))) delivery) × (meaning C·Balances (now (cash .exit)) ≡ cash-after (meaning S·Balances (now (securities .entry))) (meaning C·Balances (now (cash .entry))) delivery) ⌝ }
     ensures both_or_neither { λ _. ⌜ Both-or-neither delivery (meaning S·Balances (now (securities .entry))) (meaning C·Balances (now (cash .entry))) (meaning S·Balances (now (securities .exit))) (meaning C·Balances (now (cash .exit))) ⌝ }
@@ -44,4 +43,14 @@ pub fn deliver_against_payment<S: Transfers, C: Transfers>(securities: &mut S, c
     check_delivery(securities, cash, delivery)?;
     exchange(securities, cash, delivery);
     Ok(())
+}
+
+// Moves the units to the buyer and the money to the payee, or neither: both are checked before either is moved.
+pub fn deliver_against_payment<S: Transfers, C: Transfers>(securities: &mut S, cash: &mut C, delivery: Delivery) -> Result<(), DeliveryFault>
+    ensures answers_by_the_rules { λ r. ⌜ r ≡ answer (delivery-refused (meaning S·Balances (now (securities .entry))) (meaning C·Balances (now (cash .entry))) delivery) ⌝ }
+    ensures meaning_follows_the_rules { λ _. ⌜ (meaning S·Balances (now (securities .exit)) ≡ securities-after (meaning S·Balances (now (securities .entry))) (meaning C·Balances (now (cash .entry))) delivery) × (meaning C·Balances (now (cash .exit)) ≡ cash-after (meaning S·Balances (now (securities .entry))) (meaning C·Balances (now (cash .entry))) delivery) ⌝ }
+    ensures both_or_neither { λ _. ⌜ Both-or-neither delivery (meaning S·Balances (now (securities .entry))) (meaning C·Balances (now (cash .entry))) (meaning S·Balances (now (securities .exit))) (meaning C·Balances (now (cash .exit))) ⌝ }
+    ensures memory_is_kept { λ _. ⌜ (S·Balances .lender (now (securities .exit)) ≡ S·Balances .lender (now (securities .entry))) × (C·Balances .lender (now (cash .exit)) ≡ C·Balances .lender (now (cash .entry))) ⌝ }
+{
+    deliver(securities, cash, delivery)
 }

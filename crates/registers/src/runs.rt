@@ -16,9 +16,9 @@ use day_book::day::calls::DayBookBalances;
 use day_book::day::calls::DayBookTransfers;
 use register::carrying::answer_alike;
 use register::limits::MOST_ISSUED;
-use register::table::TableRegister;
-use register::table::calls::TableBalances;
-use register::table::calls::TableTransfers;
+use table_register::table::TableRegister;
+use table_register::table::calls::TableBalances;
+use table_register::table::calls::TableTransfers;
 use register::transfers::Transfers;
 use std::io;
 

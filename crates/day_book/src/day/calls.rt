@@ -5,7 +5,7 @@ ghost use mathlib.Core.Bool.{cond, true, false};
 ghost use Prim.Native.Nat.{ℕ, _+_, _*_, _<_, _≤_};
 ghost use Rattle.std.specs.declared.option.Option.the-variants.{None};
 ghost use Rattle.register.specs.Rules.{most, raised, credit-refused, transfer-refused, credit-answer, transfer-answer, with-credit, with-move, after-credit, after-transfer};
-ghost use Rattle.register.specs.Table.{issued};
+ghost use Rattle.table_register.specs.Table.{issued};
 ghost use Rattle.day_book.specs.Entering.{apply, fits, a-credit, a-move, full, with-entry, entries-after, posts};
 ghost use Rattle.day_book.specs.DayTable.{day-cell, day-lawful, waits, Later-places-stay, Posted, Memory-after};
 ghost use Rattle.day_book.specs.DayMeaning.{means};
@@ -87,7 +87,7 @@ impl DayBook<'_> {
         let at = self.entries.count;
         let asset = e.asset;
         let issued = self.issues[asset];
-        let more = if e.credit { e.amount } else { 0 };
+        let more = e.issued();
         self.entries.table[at] = e;
         self.entries.count = at + 1;
         self.issues[asset] = issued + more;

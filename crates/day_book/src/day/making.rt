@@ -7,7 +7,7 @@ ghost use lib.ListN.{getD};
 ghost use Rattle.std.specs.Vec.{made};
 ghost use Rattle.std.specs.declared.option.Option.the-variants.{None};
 ghost use Rattle.register.specs.Rules.{answer, unless-refused};
-ghost use Rattle.register.specs.Make.{column, make-refused, lay-out-refused, refusal, memory-meaning, nothing};
+ghost use Rattle.table_register.specs.Make.{column, make-refused, lay-out-refused, refusal, memory-meaning, nothing};
 ghost use Rattle.day_book.specs.DayTable.{waits};
 ghost use Rattle.day_book.specs.DayMeaning.{means};
 use crate::day::DayBook;
@@ -15,7 +15,7 @@ use crate::entries::Entries;
 use crate::entries::MOST_ENTRIES;
 use crate::entry::Entry;
 use register::fault::MakeFault;
-use register::issues::issues_of;
+use table_register::issues::issues_of;
 use register::limits::MOST_ASSETS;
 
 impl<'a> DayBook<'a> {

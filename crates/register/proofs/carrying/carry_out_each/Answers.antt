@@ -7,7 +7,7 @@ use Rattle.register.specs.declared.instruction.Instruction.the-variants.{Credi
 use Rattle.register.specs.Rules.{Meaning}
 use Rattle.register.specs.Registers.{meaning}
 use Rattle.register.specs.Instructions.{instruction-answer, after-instruction, after-all, alike, all-alike}
-use Rattle.register.proofs.Alike.{all-more, alike-more}
+use Rattle.register.proofs.Alike.{all-more, alike-more, one-meaning}
 use Rattle.register.proofs.carrying.carry_out_each.Needs as need
 use Rattle.register.proofs.carrying.carry_out_each.Needs.{then-same-answer, else-same-answer}
 
@@ -37,9 +37,12 @@ returns g c =
     let n : Meaning = meaning (g .B·Balances) (c .args .second .now) in
     let all : take (c .loop-instruction .instruction-index) es ≡ es = take-all _ es (c .loop-instruction-test .left) in
     let inv = c .loop-instruction .inv in
+    let first : meaning (g .A·Balances) (c .loop-instruction .first) ≡ after-all m es = inv .0 ∙ ap (after-all m) all in
+    let second : meaning (g .B·Balances) (c .loop-instruction .second) ≡ after-all n es = inv .1 ∙ ap (after-all n) all in
+    let same : c .loop-instruction .same ≡ all-alike m n es = inv .2 ∙ ap (all-alike m n) all in
     record {
-      alike = inv .2 ∙ ap (all-alike m n) all;
-      first = inv .0 ∙ ap (after-all m) all;
-      second = inv .1 ∙ ap (after-all n) all;
-      lenders = (inv .3, inv .4);
+      answers-by-the-rules = same;
+      meaning-follows-the-rules = (first, second);
+      one-meaning-one-answer = λ e. (same ∙ one-meaning m n es e, first ∙ ap (λ k. after-all k es) e ∙ sym second);
+      memory-is-kept = (inv .3, inv .4);
     }

@@ -9,17 +9,16 @@ use lib.ListN.{length, getD, set, length-set}
 use Rattle.std.proofs.shelf.Tests.{eqb-true, cases-bool, cond-true, cond-false}
 use Rattle.std.proofs.shelf.Ways.{tells}
 use Rattle.register.specs.Rules.{most, Meaning}
-use Rattle.register.specs.Table.{cell, issued, Bounded}
+use Rattle.table_register.specs.Table.{cell, issued, Bounded}
 use Rattle.day_book.specs.declared.entry.Entry.{Entry}
 use Rattle.day_book.specs.declared.entries.Entries.{Entries}
-use Rattle.day_book.specs.Entering.{apply, fits, all-fit, pending, full}
+use Rattle.day_book.specs.Entering.{apply, added, fits, all-fit, pending, full}
 use Rattle.day_book.specs.DayTable.{day-cell, DayCovered, waits, Memory-after}
 use Rattle.day_book.specs.DayMeaning.{means}
 use Rattle.day_book.proofs.Shifts.{pending-length, posted-tells, under-64}
 use Rattle.day_book.proofs.Posts.{fit-asset}
-use Rattle.day_book.proofs.Enters.{added, pending-push, push-day, push-fit, push-issue, push-covered, push-bounded}
+use Rattle.day_book.proofs.Enters.{pending-push, push-day, push-fit, push-issue, push-covered, push-bounded}
 use Rattle.day_book.proofs.day.DayBook.enter.Needs as need
-use Rattle.day_book.proofs.day.DayBook.enter.Needs.{then-e, else-e}
 
 pub ghost-self : need.ghost-self
 ghost-self c =
@@ -27,7 +26,7 @@ ghost-self c =
     let y = c .make-room .last .self in
     let same = c .make-room .ensures .meaning in
     let es : List Entry = waits (y .entries) in
-    let m : c .if-e .more ≡ added e = elim (c .if-e .came) [ then-e w ↦ w .more-is ∙ sym (cond-true (e .credit) (e .amount) 0 (w .if-e .taken)) | else-e w ↦ w .more-is ∙ sym (cond-false (e .credit) (e .amount) 0 (w .if-e .left)) ] in
+    let m = c .issued-more .ensures in
     let ok : fits (y .accounts) (y .assets) (means y .balance (e .giver) (e .asset)) e ≡ true = ap (λ (k : Meaning). fits (k .accounts) (k .assets) (k .balance (e .giver) (e .asset)) e) same ∙ c .pre .fit in
     let hs : e .asset < y .assets = fit-asset _ _ _ e ok in
     let long : e .asset < length (y .issues) = search needs in
@@ -40,7 +39,7 @@ ghost-self c =
     let bounded′ = subst (λ (n : ℕ). Bounded (y .assets) (set (y .issues) (e .asset) (getD (y .issues) (e .asset) 0 + n))) (sym m) bounded in
     (y .«few_accounts», (y .«few_assets», (y .size, (omega (arith, c .make-room .ensures .bound), (length-set (y .entries .table) (y .entries .count) e ∙ y .long,
       (ap (all-fit (y .accounts) (y .assets) (cell (y .cells .now) (y .accounts) (y .assets))) pend ∙ push-fit (y .cells .now) (y .accounts) (y .assets) es e ok (y .fit),
-      (subst (λ (l : List Entry). DayCovered (y .cells .now) (y .accounts) (y .assets) l (set (y .issues) (e .asset) (getD (y .issues) (e .asset) 0 + c .if-e .more))) (sym pend) covered′,
+      (subst (λ (l : List Entry). DayCovered (y .cells .now) (y .accounts) (y .assets) l (set (y .issues) (e .asset) (getD (y .issues) (e .asset) 0 + c .issued-more .result))) (sym pend) covered′,
       (bounded′, tt))))))))
 
 pub returns : need.returns
@@ -50,7 +49,7 @@ returns c =
     let y = c .make-room .last .self in
     let same = c .make-room .ensures .meaning in
     let es : List Entry = waits (y .entries) in
-    let m : c .if-e .more ≡ added e = elim (c .if-e .came) [ then-e w ↦ w .more-is ∙ sym (cond-true (e .credit) (e .amount) 0 (w .if-e .taken)) | else-e w ↦ w .more-is ∙ sym (cond-false (e .credit) (e .amount) 0 (w .if-e .left)) ] in
+    let m = c .issued-more .ensures in
     let ok : fits (y .accounts) (y .assets) (means y .balance (e .giver) (e .asset)) e ≡ true = ap (λ (k : Meaning). fits (k .accounts) (k .assets) (k .balance (e .giver) (e .asset)) e) same ∙ c .pre .fit in
     let hs : e .asset < y .assets = fit-asset _ _ _ e ok in
     let long : e .asset < length (y .issues) = search needs in

@@ -4,8 +4,8 @@ use mathlib.Core.List.{List, _∷_}
 use Prim.Native.Nat.{ℕ, _<_, _+_}
 use lib.ListN.{length, getD, set}
 use lib.Seq.{getD-set-same}
-use Rattle.register.specs.Table.{cell}
-use Rattle.register.proofs.Tables.{size-set, held-in}
+use Rattle.table_register.specs.Table.{cell}
+use Rattle.table_register.proofs.Tables.{size-set, held-in}
 use Rattle.register.proofs.Meanings.{same-meaning}
 use Rattle.day_book.specs.declared.entry.Entry.{Entry}
 use Rattle.day_book.specs.Entering.{apply-all, all-fit}

@@ -3,9 +3,9 @@ use mathlib.Core.Path.{_≡_, refl, sym, ap, subst, _∙_}
 use mathlib.Core.List.{List, []}
 use mathlib.Core.Bool.{true}
 use Prim.Native.Nat.{ℕ}
-use Rattle.register.specs.Table.{cell}
+use Rattle.table_register.specs.Table.{cell}
 use Rattle.register.proofs.Meanings.{same-meaning}
-use Rattle.register.proofs.Makes.{made-shape, made-covered, made-bounded, made-issues}
+use Rattle.table_register.proofs.Makes.{made-shape, made-covered, made-bounded, made-issues}
 use Rattle.day_book.specs.declared.entry.Entry.{Entry}
 use Rattle.day_book.specs.Entering.{all-fit}
 use Rattle.day_book.specs.DayTable.{day-cell, DayCovered, waits}
