@@ -18,6 +18,19 @@ use register::checks::check_transfer;
 use register::fault::RegisterFault;
 use register::transfers::Transfers;
 
+impl DayBook<'_> {
+    // The balance of a known account and asset: the posted one with the entries applied.
+    fn known_balance(&self, account: usize, asset: usize) -> u64
+        requires known { ⌜ account < now self .accounts ⌝ ∗ ⌜ asset < now self .assets ⌝ }
+        ensures { λ r. ⌜ r ≡ means (now (self .entry)) .balance account asset ⌝ }
+    {
+        let place = self.place(account, asset);
+        let posted = self.cells[place];
+        let balance = self.entries.applied(account, asset, posted);
+        balance as u64
+    }
+}
+
 pub impl Balances for DayBook<'_> as DayBookBalances {
     ghost accounts = { λ x. x .accounts };
 
@@ -43,10 +56,7 @@ pub impl Balances for DayBook<'_> as DayBookBalances {
         if account >= self.accounts || asset >= self.assets {
             return 0;
         }
-        let place = self.place(account, asset);
-        let posted = self.cells[place];
-        let value = self.entries.applied(account, asset, posted);
-        value as u64
+        self.known_balance(account, asset)
     }
 
     fn issue_of(&self, asset: usize) -> u64 {
