@@ -1,21 +1,21 @@
 -- One entry more. Assumes nothing.
-use Prim.Native.Nat.{ℕ, zero, suc, _+_, _-_, _*_, _<_, _≤_}
-use mathlib.Core.Path.{_≡_, refl, sym, ap, _∙_}
+use Prim.Native.Nat.{ℕ, _+_, _-_, _<_, _≤_}
+use mathlib.Core.Path.{_≡_, refl, ap, _∙_}
 use mathlib.Core.List.{List, [], _∷_, _++_}
 use mathlib.Core.Logic.{⊎-elim}
-use mathlib.Core.Bool.{Bool, true, false, cond, _&&_, not}
-use lib.Dec.{ltb, leb, eqb}
+use mathlib.Core.Bool.{true, false, cond, _&&_}
+use lib.Dec.{ltb, eqb}
 use lib.ListN.{length, getD, take, drop, set, length-drop}
 use native.Mathlib.Omega.{arith}
 use Rattle.std.proofs.shelf.Lists.{take-more-set, drop-set-add}
 use Rattle.std.proofs.shelf.Tests.{and-from, cases-bool, cases-eq}
 use Rattle.std.proofs.shelf.Ways.{tells}
-use Rattle.register.specs.Rules.{sum-to, most, moved, credited, raised}
+use Rattle.register.specs.Rules.{sum-to, most, moved, credited}
 use Rattle.table_register.specs.Table.{cell, issued, Bounded}
 use Rattle.register.proofs.Sums.{sum-ext, sum-credited, sum-moved}
 use Rattle.table_register.proofs.Tables.{issued-set, issued-in}
 use Rattle.day_book.specs.declared.entry.Entry.{Entry}
-use Rattle.day_book.specs.Entering.{apply, added, apply-all, fits, all-fit, pending, blank}
+use Rattle.day_book.specs.Entering.{apply, added, apply-all, fits, all-fit, pending}
 use Rattle.day_book.specs.DayTable.{day-cell, DayCovered}
 use Rattle.day_book.proofs.Applies.{all-fit-append, apply-push}
 use Rattle.day_book.proofs.Posts.{fit-taker, fit-asset, fit-giver, fit-apart, fit-amount}
@@ -34,13 +34,13 @@ pub sum-apply : (accounts assets : ℕ) (b : ℕ → ℕ → ℕ) (e : Entry) (s
 sum-apply accounts assets b e s ok =
     ⊎-elim
     (λ (p : e .credit ≡ true).
-      let steps = sum-ext (λ a. apply e a s (b a s)) (λ a. credited b (e .taker) (e .asset) (e .amount) a s) accounts (λ a l. grind (arith, tells)) in
-      let sums = sum-credited b accounts (e .taker) (e .asset) (e .amount) s (fit-taker _ _ _ e ok) in
-      grind (arith, tells, steps, sums))
+    let steps = sum-ext (λ a. apply e a s (b a s)) (λ a. credited b (e .taker) (e .asset) (e .amount) a s) accounts (λ a l. grind (arith, tells)) in
+    let sums = sum-credited b accounts (e .taker) (e .asset) (e .amount) s (fit-taker _ _ _ e ok) in
+    grind (arith, tells, steps, sums))
     (λ (p : e .credit ≡ false).
-      let steps = sum-ext (λ a. apply e a s (b a s)) (λ a. moved b (e .giver) (e .taker) (e .asset) (e .amount) a s) accounts (λ a l. grind (arith, tells)) in
-      let sums = sum-moved b accounts (e .giver) (e .taker) (e .asset) (e .amount) s (fit-giver _ _ _ e ok p) (fit-taker _ _ _ e ok) (fit-apart _ _ _ e ok p) (fit-amount _ _ _ e ok p) in
-      grind (arith, tells, steps, sums))
+    let steps = sum-ext (λ a. apply e a s (b a s)) (λ a. moved b (e .giver) (e .taker) (e .asset) (e .amount) a s) accounts (λ a l. grind (arith, tells)) in
+    let sums = sum-moved b accounts (e .giver) (e .taker) (e .asset) (e .amount) s (fit-giver _ _ _ e ok p) (fit-taker _ _ _ e ok) (fit-apart _ _ _ e ok p) (fit-amount _ _ _ e ok p) in
+    grind (arith, tells, steps, sums))
     (cases-bool (e .credit))
 
 module _ (cells : List ℕ) (accounts assets : ℕ) (es : List Entry) (e : Entry) (ok : fits accounts assets (day-cell cells accounts assets es (e .giver) (e .asset)) e ≡ true) where
@@ -79,8 +79,8 @@ module _ (cells : List ℕ) (accounts assets : ℕ) (es : List Entry) (e : Entry
         let before = bounded s in
         ⊎-elim
         (λ (p : e .credit ≡ true). ⊎-elim
-          (λ (f : s ≡ e .asset). let same : issued issues assets s ≡ issued issues assets (e .asset) = ap (issued issues assets) f in let fits′ = room p in grind (arith, tells, is, same, fits′))
-          (λ ne. grind (arith, tells, is, before))
-          (cases-eq s (e .asset)))
+        (λ (f : s ≡ e .asset). let same : issued issues assets s ≡ issued issues assets (e .asset) = ap (issued issues assets) f in let fits′ = room p in grind (arith, tells, is, same, fits′))
+        (λ ne. grind (arith, tells, is, before))
+        (cases-eq s (e .asset)))
         (λ (p : e .credit ≡ false). grind (arith, tells, is, before))
         (cases-bool (e .credit))

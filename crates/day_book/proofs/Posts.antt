@@ -1,18 +1,18 @@
 -- Posting the oldest entry to the cells. Assumes nothing.
-use Prim.Native.Nat.{ℕ, zero, suc, _+_, _-_, _*_, _<_, _≤_}
+use Prim.Native.Nat.{ℕ, suc, _+_, _-_, _*_, _<_, _≤_}
 use mathlib.Core.Path.{_≡_, refl, sym, ap, _∙_}
 use mathlib.Core.List.{List, [], _∷_, _++_}
 use mathlib.Core.Logic.{⊎-elim}
-use mathlib.Core.Bool.{Bool, true, false, cond, _&&_, not}
-use lib.Dec.{ltb, leb, eqb}
+use mathlib.Core.Bool.{true, false, cond, _&&_}
+use lib.Dec.{ltb}
 use lib.ListN.{length, getD, take, drop, set, length-drop, length-set}
 use native.Mathlib.Omega.{arith}
 use Rattle.std.proofs.shelf.Lists.{take-more, drop-more, getD-drop, getD-set-same, getD-set-other, drop-set-lt}
 use Rattle.std.proofs.shelf.Tests.{and-parts, and-from, cases-eq, cond-true, lt-ltb}
 use Rattle.std.proofs.shelf.Ways.{tells}
-use Rattle.register.specs.Rules.{sum-to, most, moved, credited}
-use Rattle.table_register.specs.Table.{cell, issued, Bounded}
-use Rattle.register.proofs.Sums.{sum-ext, sum-le, at-most-sum}
+use Rattle.register.specs.Rules.{most, credited}
+use Rattle.table_register.specs.Table.{cell, Bounded}
+use Rattle.register.proofs.Sums.{sum-ext, at-most-sum}
 use Rattle.table_register.proofs.Tables.{credit-cell, put-cell, held-in, cell-in}
 use Rattle.day_book.specs.declared.entry.Entry.{Entry}
 use Rattle.day_book.specs.Entering.{apply, apply-all, fits, all-fit, pending, blank}
@@ -119,17 +119,17 @@ module _ (cells : List ℕ) (accounts assets : ℕ) (e : Entry) (rest : List Ent
         let held = held-in cells accounts assets (e .giver) (e .asset) p size hg hs at in
         ⊎-elim
         (λ (f : s ≡ e .asset). ⊎-elim
-          (λ (g : a ≡ e .giver).
-            let here : cell cells accounts assets a s ≡ getD cells p 0 = ap (λ k. cell cells accounts assets k s) g ∙ ap (cell cells accounts assets (e .giver)) f ∙ held in
-            let now : cell (set cells p (getD cells p 0 - e .amount)) accounts assets a s ≡ getD cells p 0 - e .amount = grind (arith, tells, put) in
-            grind (arith, tells, here, now, apart))
-          (λ ng.
-            let now : cell (set cells p (getD cells p 0 - e .amount)) accounts assets a s ≡ cell cells accounts assets a s = grind (arith, tells, put) in
-            grind (arith, tells, now))
-          (cases-eq a (e .giver)))
+        (λ (g : a ≡ e .giver).
+        let here : cell cells accounts assets a s ≡ getD cells p 0 = ap (λ k. cell cells accounts assets k s) g ∙ ap (cell cells accounts assets (e .giver)) f ∙ held in
+        let now : cell (set cells p (getD cells p 0 - e .amount)) accounts assets a s ≡ getD cells p 0 - e .amount = grind (arith, tells, put) in
+        grind (arith, tells, here, now, apart))
+        (λ ng.
+        let now : cell (set cells p (getD cells p 0 - e .amount)) accounts assets a s ≡ cell cells accounts assets a s = grind (arith, tells, put) in
+        grind (arith, tells, now))
+        (cases-eq a (e .giver)))
         (λ ns.
-          let now : cell (set cells p (getD cells p 0 - e .amount)) accounts assets a s ≡ cell cells accounts assets a s = grind (arith, tells, put) in
-          grind (arith, tells, now))
+        let now : cell (set cells p (getD cells p 0 - e .amount)) accounts assets a s ≡ cell cells accounts assets a s = grind (arith, tells, put) in
+        grind (arith, tells, now))
         (cases-eq s (e .asset))
 
     pub debit-fit : all-fit accounts assets (cell (set cells p (getD cells p 0 - e .amount)) accounts assets) (half e ∷ rest) ≡ true
@@ -152,13 +152,4 @@ pub later-set : (first : ℕ) (cells : List ℕ) (p v : ℕ) → p < first → L
 later-set first cells p v lt = record {
   same-size = length-set cells p v;
   stay = λ place le. getD-set-other cells p place v 0 (λ (e : place ≡ p). omega (arith, e, lt, le));
-}
-
-pub later-refl : (first : ℕ) (cells : List ℕ) → Later-places-stay first cells cells
-later-refl first cells = record { same-size = refl; stay = λ place le. refl }
-
-pub later-trans : (first first′ : ℕ) (a b c : List ℕ) → first′ ≡ first → Later-places-stay first a b → Later-places-stay first′ b c → Later-places-stay first a c
-later-trans first first′ a b c same ab bc = record {
-  same-size = bc .same-size ∙ ab .same-size;
-  stay = λ place le. bc .stay place (omega (arith, same, le)) ∙ ab .stay place le;
 }

@@ -2,9 +2,9 @@
 use Prim.Native.Nat.{ℕ, _+_, _-_, _<_, _≤_}
 use mathlib.Core.Path.{_≡_, refl, sym, ap, _∙_}
 use mathlib.Core.List.{List, [], _∷_}
-use mathlib.Core.Bool.{Bool, true, false, cond, _&&_, not}
-use lib.Dec.{ltb, leb, eqb}
-use Rattle.std.proofs.shelf.Tests.{and-parts, ltb-true}
+use mathlib.Core.Bool.{true, false}
+use lib.Dec.{eqb}
+use Rattle.std.proofs.shelf.Tests.{and-parts}
 use Rattle.std.proofs.shelf.Ways.{tells}
 use Rattle.register.specs.Rules.{Meaning}
 use Rattle.table_register.specs.Table.{cell, Covered}
@@ -32,9 +32,9 @@ shift-rest t u count some few long each =
     let right : length (take m (drop 1 t)) ≡ m = length-take-le m (drop 1 t) (omega (arith, length-drop 1 t)) in
     ap (λ n. take n u) zero-off
     ∙ ext-getD blank (take m u) (take m (drop 1 t)) (left ∙ sym right) (λ i h.
-        let lt : i < m = omega (arith, left, h) in
-        let turn : 1 + i ≡ i + 1 = omega arith in
-        getD-take m u i blank lt ∙ each i (omega arith) ∙ ap (λ k. getD t k blank) (sym turn) ∙ sym (getD-drop 1 t i blank) ∙ sym (getD-take m (drop 1 t) i blank lt))
+    let lt : i < m = omega (arith, left, h) in
+    let turn : 1 + i ≡ i + 1 = omega arith in
+    getD-take m u i blank lt ∙ each i (omega arith) ∙ ap (λ k. getD t k blank) (sym turn) ∙ sym (getD-drop 1 t i blank) ∙ sym (getD-take m (drop 1 t) i blank lt))
 
 -- no entry stands in a register of no account
 pub none-fit : (accounts assets : ℕ) (b : ℕ → ℕ → ℕ) (es : List Entry) → accounts ≡ 0 → all-fit accounts assets b es ≡ true → es ≡ []

@@ -24,9 +24,9 @@ blank = a-move 0 0 0 0
 -- The balance of an account and asset after an entry, where it was `held`: what the rules say of a credit or a move.
 abbrev pub apply : Entry → ℕ → ℕ → ℕ → ℕ
 apply e account asset held =
-  cond (e .credit)
-  (credited (λ a s. held) (e .taker) (e .asset) (e .amount) account asset)
-  (moved (λ a s. held) (e .giver) (e .taker) (e .asset) (e .amount) account asset)
+    cond (e .credit)
+    (credited (λ a s. held) (e .taker) (e .asset) (e .amount) account asset)
+    (moved (λ a s. held) (e .giver) (e .taker) (e .asset) (e .amount) account asset)
 
 -- What an entry adds to the issue of its asset.
 abbrev pub added : Entry → ℕ
@@ -40,7 +40,7 @@ apply-all (e ∷ es) account asset held = apply-all es account asset (apply e ac
 -- An entry fits a register of these counts, where its giver holds so much.
 abbrev pub fits : ℕ → ℕ → ℕ → Entry → Bool
 fits accounts assets held e =
-  ltb (e .taker) accounts && (ltb (e .asset) assets && cond (e .credit) true (ltb (e .giver) accounts && (not (eqb (e .giver) (e .taker)) && leb (e .amount) held)))
+    ltb (e .taker) accounts && (ltb (e .asset) assets && cond (e .credit) true (ltb (e .giver) accounts && (not (eqb (e .giver) (e .taker)) && leb (e .amount) held)))
 
 -- Each fits in its turn.
 abbrev pub all-fit : ℕ → ℕ → (ℕ → ℕ → ℕ) → List Entry → Bool

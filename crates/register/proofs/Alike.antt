@@ -1,11 +1,9 @@
 -- Lists of instructions, one more, and two registers of one meaning. Assumes nothing.
-use Prim.Native.Nat.{ℕ, _+_, _<_, _≤_}
-use mathlib.Core.Path.{_≡_, refl, sym, ap, subst, _∙_}
+use Prim.Native.Nat.{ℕ, _+_, _<_}
+use mathlib.Core.Path.{_≡_, refl, sym, ap, _∙_}
 use mathlib.Core.List.{List, [], _∷_, _++_}
 use mathlib.Core.Bool.{Bool, true, false, _&&_}
-use lib.Dec.{eqb}
 use lib.ListN.{length, getD, take}
-use native.Mathlib.Omega.{arith}
 use Rattle.std.proofs.shelf.Lists.{take-more}
 use Rattle.std.proofs.shelf.Tests.{eq-eqb, and-from}
 use Rattle.std.specs.declared.result.Result.the-variants.{Ok, Err}

@@ -40,4 +40,4 @@ cash-after securities cash d = unless-refused (delivery-refused securities cash 
 -- Units and money moved, or neither did.
 abbrev pub Both-or-neither : Delivery → Meaning → Meaning → Meaning → Meaning → Type 0
 Both-or-neither d securities cash securities′ cash′ =
-  ((securities′ ≡ units-moved securities d) × (cash′ ≡ money-moved cash d)) ⊎ ((securities′ ≡ securities) × (cash′ ≡ cash))
+    ((securities′ ≡ units-moved securities d) × (cash′ ≡ money-moved cash d)) ⊎ ((securities′ ≡ securities) × (cash′ ≡ cash))

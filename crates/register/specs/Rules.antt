@@ -40,19 +40,19 @@ pub record Lawful (m : Meaning) : Type 0 where
 -- The first reason to refuse a credit of account, asset and amount.
 abbrev pub credit-refused : Meaning → ℕ → ℕ → ℕ → Option RegisterFault
 credit-refused m account asset amount =
-  cond (leb (m .accounts) account) (Some UnknownAccount)
-  (cond (leb (m .assets) asset) (Some UnknownAsset)
-  (cond (eqb amount 0) (Some ZeroAmount)
-  (cond (ltb most (m .issue asset + amount)) (Some OverIssue) None)))
+    cond (leb (m .accounts) account) (Some UnknownAccount)
+    (cond (leb (m .assets) asset) (Some UnknownAsset)
+    (cond (eqb amount 0) (Some ZeroAmount)
+    (cond (ltb most (m .issue asset + amount)) (Some OverIssue) None)))
 
 -- The first reason to refuse a move of giver, taker, asset and amount.
 abbrev pub transfer-refused : Meaning → ℕ → ℕ → ℕ → ℕ → Option RegisterFault
 transfer-refused m giver taker asset amount =
-  cond (leb (m .accounts) giver || leb (m .accounts) taker) (Some UnknownAccount)
-  (cond (leb (m .assets) asset) (Some UnknownAsset)
-  (cond (eqb giver taker) (Some SameAccount)
-  (cond (eqb amount 0) (Some ZeroAmount)
-  (cond (ltb (m .balance giver asset) amount) (Some Short) None))))
+    cond (leb (m .accounts) giver || leb (m .accounts) taker) (Some UnknownAccount)
+    (cond (leb (m .assets) asset) (Some UnknownAsset)
+    (cond (eqb giver taker) (Some SameAccount)
+    (cond (eqb amount 0) (Some ZeroAmount)
+    (cond (ltb (m .balance giver asset) amount) (Some Short) None))))
 
 -- A register answers with the first reason to refuse, or accepts.
 abbrev pub answer : {F : Type 0} → Option F → Result (Unit {0}) F
@@ -73,7 +73,7 @@ transfer-answer m giver taker asset amount = answer (transfer-refused m giver ta
 -- An accepted credit: that balance and that issue rise by the amount, and nothing else changes.
 abbrev pub credited : (ℕ → ℕ → ℕ) → ℕ → ℕ → ℕ → ℕ → ℕ → ℕ
 credited balance account asset amount a s =
-  cond (eqb a account && eqb s asset) (balance a s + amount) (balance a s)
+    cond (eqb a account && eqb s asset) (balance a s + amount) (balance a s)
 
 abbrev pub raised : (ℕ → ℕ) → ℕ → ℕ → ℕ → ℕ
 raised issue asset amount s = cond (eqb s asset) (issue s + amount) (issue s)
@@ -89,9 +89,9 @@ with-credit m account asset amount = record {
 -- An accepted move: the giver's balance falls and the taker's rises by the amount, and nothing else changes.
 abbrev pub moved : (ℕ → ℕ → ℕ) → ℕ → ℕ → ℕ → ℕ → ℕ → ℕ → ℕ
 moved balance giver taker asset amount a s =
-  cond (eqb s asset)
-  (cond (eqb a giver) (balance a s - amount) (cond (eqb a taker) (balance a s + amount) (balance a s)))
-  (balance a s)
+    cond (eqb s asset)
+    (cond (eqb a giver) (balance a s - amount) (cond (eqb a taker) (balance a s + amount) (balance a s)))
+    (balance a s)
 
 abbrev pub with-move : Meaning → ℕ → ℕ → ℕ → ℕ → Meaning
 with-move m giver taker asset amount = record {

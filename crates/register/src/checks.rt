@@ -7,7 +7,12 @@ use crate::fault::RegisterFault;
 use crate::limits::MOST_ISSUED;
 
 // What a register would answer to this credit.
-pub fn check_credit<R: Balances>(register: &R, account: usize, asset: usize, amount: u64) -> Result<(), RegisterFault>
+pub fn check_credit<R: Balances>(
+    register: &R,
+    account: usize,
+    asset: usize,
+    amount: u64,
+) -> Result<(), RegisterFault>
     ensures answers_by_the_rules { λ r. ⌜ r ≡ credit-answer (meaning R·Balances (now (register .entry))) account asset amount ⌝ }
 {
     if account >= register.account_count() {
@@ -26,7 +31,13 @@ pub fn check_credit<R: Balances>(register: &R, account: usize, asset: usize, amo
 }
 
 // What a register would answer to this move.
-pub fn check_transfer<R: Balances>(register: &R, giver: usize, taker: usize, asset: usize, amount: u64) -> Result<(), RegisterFault>
+pub fn check_transfer<R: Balances>(
+    register: &R,
+    giver: usize,
+    taker: usize,
+    asset: usize,
+    amount: u64,
+) -> Result<(), RegisterFault>
     ensures answers_by_the_rules { λ r. ⌜ r ≡ transfer-answer (meaning R·Balances (now (register .entry))) giver taker asset amount ⌝ }
 {
     let accounts = register.account_count();

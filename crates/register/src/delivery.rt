@@ -11,13 +11,29 @@ use crate::terms::DeliveryFault;
 use crate::transfers::Transfers;
 
 // What the two registers would answer to this delivery, told by their reading halves alone.
-pub fn check_delivery<S: Balances, C: Balances>(securities: &S, cash: &C, delivery: Delivery) -> Result<(), DeliveryFault>
+pub fn check_delivery<S: Balances, C: Balances>(
+    securities: &S,
+    cash: &C,
+    delivery: Delivery,
+) -> Result<(), DeliveryFault>
     ensures answers_by_the_rules { λ r. ⌜ r ≡ answer (delivery-refused (meaning S·Balances (now (securities .entry))) (meaning C·Balances (now (cash .entry))) delivery) ⌝ }
 {
-    if let Err(fault) = check_transfer(securities, delivery.seller, delivery.buyer, delivery.asset, delivery.units) {
+    if let Err(fault) = check_transfer(
+        securities,
+        delivery.seller,
+        delivery.buyer,
+        delivery.asset,
+        delivery.units,
+    ) {
         return Err(DeliveryFault::Units(fault));
     }
-    if let Err(fault) = check_transfer(cash, delivery.payer, delivery.payee, delivery.currency, delivery.amount) {
+    if let Err(fault) = check_transfer(
+        cash,
+        delivery.payer,
+        delivery.payee,
+        delivery.currency,
+        delivery.amount,
+    ) {
         return Err(DeliveryFault::Money(fault));
     }
     Ok(())
@@ -30,11 +46,25 @@ fn exchange<S: Transfers, C: Transfers>(securities: &mut S, cash: &mut C, delive
     ensures money { λ _. ⌜ meaning C·Balances (now (cash .exit)) ≡ money-moved (meaning C·Balances (now (cash .entry))) delivery ⌝ }
     ensures lenders { λ _. ⌜ (S·Balances .lender (now (securities .exit)) ≡ S·Balances .lender (now (securities .entry))) × (C·Balances .lender (now (cash .exit)) ≡ C·Balances .lender (now (cash .entry))) ⌝ }
 {
-    let _ = securities.transfer(delivery.seller, delivery.buyer, delivery.asset, delivery.units);
-    let _ = cash.transfer(delivery.payer, delivery.payee, delivery.currency, delivery.amount);
+    let _ = securities.transfer(
+        delivery.seller,
+        delivery.buyer,
+        delivery.asset,
+        delivery.units,
+    );
+    let _ = cash.transfer(
+        delivery.payer,
+        delivery.payee,
+        delivery.currency,
+        delivery.amount,
+    );
 }
 
-fn deliver<S: Transfers, C: Transfers>(securities: &mut S, cash: &mut C, delivery: Delivery) -> Result<(), DeliveryFault>
+fn deliver<S: Transfers, C: Transfers>(
+    securities: &mut S,
+    cash: &mut C,
+    delivery: Delivery,
+) -> Result<(), DeliveryFault>
     ensures answers_by_the_rules { λ r. ⌜ r ≡ answer (delivery-refused (meaning S·Balances (now (securities .entry))) (meaning C·Balances (now (cash .entry))) delivery) ⌝ }
     ensures meaning_follows_the_rules { λ _. ⌜ (meaning S·Balances (now (securities .exit)) ≡ securities-after (meaning S·Balances (now (securities .entry))) (meaning C·Balances (now (cash .entry))) delivery) × (meaning C·Balances (now (cash .exit)) ≡ cash-after (meaning S·Balances (now (securities .entry))) (meaning C·Balances (now (cash .entry))) delivery) ⌝ }
     ensures both_or_neither { λ _. ⌜ Both-or-neither delivery (meaning S·Balances (now (securities .entry))) (meaning C·Balances (now (cash .entry))) (meaning S·Balances (now (securities .exit))) (meaning C·Balances (now (cash .exit))) ⌝ }
@@ -46,7 +76,11 @@ fn deliver<S: Transfers, C: Transfers>(securities: &mut S, cash: &mut C, deliver
 }
 
 // Moves the units to the buyer and the money to the payee, or neither: both are checked before either is moved.
-pub fn deliver_against_payment<S: Transfers, C: Transfers>(securities: &mut S, cash: &mut C, delivery: Delivery) -> Result<(), DeliveryFault>
+pub fn deliver_against_payment<S: Transfers, C: Transfers>(
+    securities: &mut S,
+    cash: &mut C,
+    delivery: Delivery,
+) -> Result<(), DeliveryFault>
     ensures answers_by_the_rules { λ r. ⌜ r ≡ answer (delivery-refused (meaning S·Balances (now (securities .entry))) (meaning C·Balances (now (cash .entry))) delivery) ⌝ }
     ensures meaning_follows_the_rules { λ _. ⌜ (meaning S·Balances (now (securities .exit)) ≡ securities-after (meaning S·Balances (now (securities .entry))) (meaning C·Balances (now (cash .entry))) delivery) × (meaning C·Balances (now (cash .exit)) ≡ cash-after (meaning S·Balances (now (securities .entry))) (meaning C·Balances (now (cash .entry))) delivery) ⌝ }
     ensures both_or_neither { λ _. ⌜ Both-or-neither delivery (meaning S·Balances (now (securities .entry))) (meaning C·Balances (now (cash .entry))) (meaning S·Balances (now (securities .exit))) (meaning C·Balances (now (cash .exit))) ⌝ }

@@ -13,7 +13,13 @@ pub trait Transfers: Balances {
         ensures memory_is_kept { λ _. ⌜ Self·Balances .lender (now (self .exit)) ≡ Self·Balances .lender (now (self .entry)) ⌝ };
 
     // Moves an amount of an asset from the giver to the taker.
-    fn transfer(&mut self, giver: usize, taker: usize, asset: usize, amount: u64) -> Result<(), RegisterFault>
+    fn transfer(
+        &mut self,
+        giver: usize,
+        taker: usize,
+        asset: usize,
+        amount: u64,
+    ) -> Result<(), RegisterFault>
         ensures answers_by_the_rules { λ r. ⌜ r ≡ transfer-answer (meaning Self·Balances (now (self .entry))) giver taker asset amount ⌝ }
         ensures meaning_follows_the_rules { λ _. ⌜ meaning Self·Balances (now (self .exit)) ≡ after-transfer (meaning Self·Balances (now (self .entry))) giver taker asset amount ⌝ }
         ensures memory_is_kept { λ _. ⌜ Self·Balances .lender (now (self .exit)) ≡ Self·Balances .lender (now (self .entry)) ⌝ };

@@ -2,6 +2,7 @@
 mod answer;
 mod call;
 mod reading;
+
 use crate::answer::Answer;
 use crate::answer::AnswerPartialEq;
 use crate::answer::answer_to;
@@ -11,14 +12,14 @@ use crate::reading::read_call;
 use day_book::day::DayBook;
 use day_book::day::calls::DayBookBalances;
 use day_book::day::calls::DayBookTransfers;
-use table_register::table::TableRegister;
-use table_register::table::calls::TableBalances;
-use table_register::table::calls::TableTransfers;
 use std::alloc::AllocError;
 use std::alloc::Global;
 use std::io;
 use std::io::BufRead;
 use std::io::BufReader;
+use table_register::table::TableRegister;
+use table_register::table::calls::TableBalances;
+use table_register::table::calls::TableTransfers;
 
 fn print_answer(rt: &LibcRuntime, table: Answer, day: Answer) -> io::Result<()> {
     if table != day {
@@ -40,12 +41,22 @@ fn copied(heap: Global, balances: &[u64]) -> Result<Vec<u64>, AllocError> {
 }
 
 // Makes both registers over these balances, and answers the calls before the next making.
-fn run(rt: &LibcRuntime, accounts: usize, assets: usize, balances: &[u64], calls: &[Call]) -> io::Result<()> {
+fn run(
+    rt: &LibcRuntime,
+    accounts: usize,
+    assets: usize,
+    balances: &[u64],
+    calls: &[Call],
+) -> io::Result<()> {
     let mut first = copied(rt.alloc(), balances)?;
     let mut second = copied(rt.alloc(), balances)?;
     let mut table = TableRegister::over(first.as_mut_slice());
     let mut day = DayBook::over(second.as_mut_slice());
-    print_answer(rt, making(table.lay_out(accounts, assets)), making(day.lay_out(accounts, assets)))?;
+    print_answer(
+        rt,
+        making(table.lay_out(accounts, assets)),
+        making(day.lay_out(accounts, assets)),
+    )?;
     for call in calls {
         if let Call::Make(_) = call {
             break;
@@ -64,7 +75,13 @@ fn main(rt: LibcRuntime) -> io::Result<()> {
     for at in 0..calls.len() {
         if let Call::Make(numbers) = &calls[at] {
             if numbers.len() >= 2 {
-                run(&rt, numbers[0] as usize, numbers[1] as usize, &numbers[2..], &calls[at + 1..])?;
+                run(
+                    &rt,
+                    numbers[0] as usize,
+                    numbers[1] as usize,
+                    &numbers[2..],
+                    &calls[at + 1..],
+                )?;
             }
         }
     }

@@ -12,7 +12,9 @@ fn numbers(heap: Global, text: &str) -> Result<Vec<u64>, AllocError> {
             read.push(number)?;
             number = 0;
         } else {
-            number = number.wrapping_mul(10).wrapping_add(u64::from(byte.wrapping_sub(b'0')));
+            number = number
+                .wrapping_mul(10)
+                .wrapping_add(u64::from(byte.wrapping_sub(b'0')));
         }
     }
     read.push(number)?;
@@ -30,19 +32,37 @@ pub(crate) fn read_call(heap: Global, line: &str) -> Result<Call, AllocError> {
     }
     if let Some(rest) = line.strip_prefix("credit,") {
         let read = numbers(heap, rest)?;
-        let (account, asset, amount) = (number_at(&read, 0) as usize, number_at(&read, 1) as usize, number_at(&read, 2));
-        return Ok(Call::Carry(Instruction::Credit { account, asset, amount }));
+        let (account, asset, amount) = (
+            number_at(&read, 0) as usize,
+            number_at(&read, 1) as usize,
+            number_at(&read, 2),
+        );
+        return Ok(Call::Carry(Instruction::Credit {
+            account,
+            asset,
+            amount,
+        }));
     }
     if let Some(rest) = line.strip_prefix("move,") {
         let read = numbers(heap, rest)?;
         let (giver, taker) = (number_at(&read, 0) as usize, number_at(&read, 1) as usize);
         let (asset, amount) = (number_at(&read, 2) as usize, number_at(&read, 3));
-        return Ok(Call::Carry(Instruction::Move { giver, taker, asset, amount }));
+        return Ok(Call::Carry(Instruction::Move {
+            giver,
+            taker,
+            asset,
+            amount,
+        }));
     }
     if let Some(rest) = line.strip_prefix("balance,") {
         let read = numbers(heap, rest)?;
-        return Ok(Call::Balance { account: number_at(&read, 0) as usize, asset: number_at(&read, 1) as usize });
+        return Ok(Call::Balance {
+            account: number_at(&read, 0) as usize,
+            asset: number_at(&read, 1) as usize,
+        });
     }
     let read = numbers(heap, line.strip_prefix("issue,").unwrap_or(""))?;
-    Ok(Call::Issue { asset: number_at(&read, 0) as usize })
+    Ok(Call::Issue {
+        asset: number_at(&read, 0) as usize,
+    })
 }

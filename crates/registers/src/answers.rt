@@ -9,7 +9,11 @@ use register::terms::DeliveryFault;
 use register::transfers::Transfers;
 use std::io;
 
-pub(crate) fn print_making(rt: &LibcRuntime, make: &str, answer: Result<(), MakeFault>) -> io::Result<()> {
+pub(crate) fn print_making(
+    rt: &LibcRuntime,
+    make: &str,
+    answer: Result<(), MakeFault>,
+) -> io::Result<()> {
     match answer {
         Ok(()) => println!(rt, "{make},made"),
         Err(fault) => {
@@ -19,7 +23,12 @@ pub(crate) fn print_making(rt: &LibcRuntime, make: &str, answer: Result<(), Make
     }
 }
 
-pub(crate) fn print_answers<R: Transfers>(rt: &LibcRuntime, make: &str, register: &mut R, instructions: &[Instruction]) -> io::Result<()> {
+pub(crate) fn print_answers<R: Transfers>(
+    rt: &LibcRuntime,
+    make: &str,
+    register: &mut R,
+    instructions: &[Instruction],
+) -> io::Result<()> {
     for instruction in instructions {
         match carry_out(register, *instruction) {
             Ok(()) => println!(rt, "{make},ok")?,
@@ -32,7 +41,11 @@ pub(crate) fn print_answers<R: Transfers>(rt: &LibcRuntime, make: &str, register
     Ok(())
 }
 
-pub(crate) fn print_balances<R: Balances>(rt: &LibcRuntime, make: &str, register: &R) -> io::Result<()> {
+pub(crate) fn print_balances<R: Balances>(
+    rt: &LibcRuntime,
+    make: &str,
+    register: &R,
+) -> io::Result<()> {
     for asset in 0..register.asset_count() {
         let issue = register.issue_of(asset);
         println!(rt, "{make},issue,{asset},{issue}")?;
@@ -51,7 +64,12 @@ pub(crate) fn print_memory(rt: &LibcRuntime, make: &str, cells: &[u64]) -> io::R
     Ok(())
 }
 
-pub(crate) fn print_deliveries<S: Transfers, C: Transfers>(rt: &LibcRuntime, securities: &mut S, cash: &mut C, deliveries: &[Delivery]) -> io::Result<()> {
+pub(crate) fn print_deliveries<S: Transfers, C: Transfers>(
+    rt: &LibcRuntime,
+    securities: &mut S,
+    cash: &mut C,
+    deliveries: &[Delivery],
+) -> io::Result<()> {
     for delivery in deliveries {
         match deliver_against_payment(securities, cash, *delivery) {
             Ok(()) => println!(rt, "delivered")?,

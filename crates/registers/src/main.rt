@@ -4,6 +4,7 @@
 mod answers;
 mod lists;
 mod runs;
+
 use crate::runs::run_both;
 use crate::runs::run_day_book;
 use crate::runs::run_deliveries_from_day_books;

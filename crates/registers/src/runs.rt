@@ -16,11 +16,11 @@ use day_book::day::calls::DayBookBalances;
 use day_book::day::calls::DayBookTransfers;
 use register::carrying::answer_alike;
 use register::limits::MOST_ISSUED;
+use register::transfers::Transfers;
+use std::io;
 use table_register::table::TableRegister;
 use table_register::table::calls::TableBalances;
 use table_register::table::calls::TableTransfers;
-use register::transfers::Transfers;
-use std::io;
 
 // Making is refused for the counts or the size, then for a sum; the memory is then as it was.
 pub(crate) fn run_makings(rt: &LibcRuntime) -> io::Result<()> {
@@ -100,10 +100,18 @@ pub(crate) fn run_deliveries_from_tables(rt: &LibcRuntime) -> io::Result<()> {
     let mut first = OPENING;
     let mut second = OPENING;
     let mut securities = TableRegister::over(&mut first);
-    print_making(rt, "securities in a table", securities.lay_out(ACCOUNTS, ASSETS))?;
+    print_making(
+        rt,
+        "securities in a table",
+        securities.lay_out(ACCOUNTS, ASSETS),
+    )?;
     deliver_against_table(rt, &mut securities)?;
     let mut securities = TableRegister::over(&mut second);
-    print_making(rt, "securities in a table", securities.lay_out(ACCOUNTS, ASSETS))?;
+    print_making(
+        rt,
+        "securities in a table",
+        securities.lay_out(ACCOUNTS, ASSETS),
+    )?;
     deliver_against_day_book(rt, &mut securities)
 }
 
@@ -111,9 +119,17 @@ pub(crate) fn run_deliveries_from_day_books(rt: &LibcRuntime) -> io::Result<()> 
     let mut first = OPENING;
     let mut second = OPENING;
     let mut securities = DayBook::over(&mut first);
-    print_making(rt, "securities in a day book", securities.lay_out(ACCOUNTS, ASSETS))?;
+    print_making(
+        rt,
+        "securities in a day book",
+        securities.lay_out(ACCOUNTS, ASSETS),
+    )?;
     deliver_against_table(rt, &mut securities)?;
     let mut securities = DayBook::over(&mut second);
-    print_making(rt, "securities in a day book", securities.lay_out(ACCOUNTS, ASSETS))?;
+    print_making(
+        rt,
+        "securities in a day book",
+        securities.lay_out(ACCOUNTS, ASSETS),
+    )?;
     deliver_against_day_book(rt, &mut securities)
 }

@@ -1,10 +1,10 @@
 -- A write of one cell of a table. Assumes nothing.
-use Prim.Native.Nat.{ℕ, zero, suc, _+_, _-_, _*_, _/_, _%_, _<_, _≤_}
-use mathlib.Core.Path.{_≡_, refl, sym, ap, _∙_}
+use Prim.Native.Nat.{ℕ, _+_, _-_, _*_, _/_, _%_, _<_, _≤_}
+use mathlib.Core.Path.{_≡_, sym, ap, _∙_}
 use mathlib.Core.List.{List}
 use mathlib.Core.Logic.{⊎-elim}
-use mathlib.Core.Bool.{Bool, true, false, cond, _&&_}
-use lib.Dec.{eqb, ltb, leb}
+use mathlib.Core.Bool.{cond, _&&_}
+use lib.Dec.{eqb, ltb}
 use lib.ListN.{length, getD, set, length-set}
 use native.Mathlib.Omega.{arith}
 use native.Mathlib.Nat.{mul-comm}
@@ -12,10 +12,10 @@ use Rattle.std.proofs.shelf.Bits.{mul-add-lt, div-mul-add, mod-mul-add}
 use Rattle.std.proofs.shelf.Lists.{getD-set-same, getD-set-other}
 use Rattle.std.proofs.shelf.Tests.{cases-eq, cases-lt}
 use Rattle.std.proofs.shelf.Ways.{tells}
-use Rattle.std.proofs.shelf.Tests.{lt-ltb, and-from, cond-true, eqb-true, and-parts}
-use Rattle.register.specs.Rules.{sum-to, most, credited, raised, moved}
+use Rattle.std.proofs.shelf.Tests.{lt-ltb, and-from, cond-true}
+use Rattle.register.specs.Rules.{most, credited, raised, moved}
 use Rattle.table_register.specs.Table.{cell, issued, Covered, Bounded}
-use Rattle.register.proofs.Sums.{sum-ext, at-most-sum, sum-credited, sum-moved, sum-change, sum-le}
+use Rattle.register.proofs.Sums.{sum-ext, at-most-sum, sum-credited, sum-moved, sum-le}
 
 pub same-row : (a b w s t : ℕ) → s < w → t < w → a * w + s ≡ b * w + t → a ≡ b
 same-row a b w s t hs ht e = sym (div-mul-add a w s hs) ∙ ap (λ n. n / w) e ∙ div-mul-add b w t ht
@@ -30,20 +30,20 @@ pub cell-set : (cells : List ℕ) (accounts assets account asset v : ℕ) → ac
 cell-set cells accounts assets account asset v size ha hs a s =
     ⊎-elim
     (λ (la : a < accounts). ⊎-elim
-      (λ (ls : s < assets). ⊎-elim
-        (λ (p : a * assets + s ≡ account * assets + asset).
-          let row = same-row a account assets s asset ls hs p in
-          let column = same-column a account assets s asset ls hs p in
-          let within : account * assets + asset < length cells = omega (arith, mul-add-lt account assets asset accounts ha hs, mul-comm assets accounts) in
-          let read : getD (set cells (account * assets + asset) v) (a * assets + s) 0 ≡ v = ap (λ k. getD (set cells (account * assets + asset) v) k 0) p ∙ getD-set-same cells (account * assets + asset) v 0 within in
-          grind (arith, tells, read, row, column))
-        (λ ne.
-          let read = getD-set-other cells (account * assets + asset) (a * assets + s) v 0 ne in
-          let apart : a ≡ account → s ≡ asset → ⊥ = λ p q. ne (ap (λ k. k * assets + s) p ∙ ap (λ k. account * assets + k) q) in
-          grind (arith, tells, read, apart))
-        (cases-eq (a * assets + s) (account * assets + asset)))
-      (λ (ls : assets ≤ s). grind (arith, tells))
-      (cases-lt s assets))
+    (λ (ls : s < assets). ⊎-elim
+    (λ (p : a * assets + s ≡ account * assets + asset).
+    let row = same-row a account assets s asset ls hs p in
+    let column = same-column a account assets s asset ls hs p in
+    let within : account * assets + asset < length cells = omega (arith, mul-add-lt account assets asset accounts ha hs, mul-comm assets accounts) in
+    let read : getD (set cells (account * assets + asset) v) (a * assets + s) 0 ≡ v = ap (λ k. getD (set cells (account * assets + asset) v) k 0) p ∙ getD-set-same cells (account * assets + asset) v 0 within in
+    grind (arith, tells, read, row, column))
+    (λ ne.
+    let read = getD-set-other cells (account * assets + asset) (a * assets + s) v 0 ne in
+    let apart : a ≡ account → s ≡ asset → ⊥ = λ p q. ne (ap (λ k. k * assets + s) p ∙ ap (λ k. account * assets + k) q) in
+    grind (arith, tells, read, apart))
+    (cases-eq (a * assets + s) (account * assets + asset)))
+    (λ (ls : assets ≤ s). grind (arith, tells))
+    (cases-lt s assets))
     (λ (la : accounts ≤ a). grind (arith, tells))
     (cases-lt a accounts)
 
@@ -57,11 +57,11 @@ pub issued-set : (issues : List ℕ) (assets asset v : ℕ) → asset < assets �
 issued-set issues assets asset v ha hl s =
     ⊎-elim
     (λ (p : s ≡ asset).
-      let read : getD (set issues asset v) s 0 ≡ v = ap (λ k. getD (set issues asset v) k 0) p ∙ getD-set-same issues asset v 0 hl in
-      grind (arith, tells, read))
+    let read : getD (set issues asset v) s 0 ≡ v = ap (λ k. getD (set issues asset v) k 0) p ∙ getD-set-same issues asset v 0 hl in
+    grind (arith, tells, read))
     (λ ne.
-      let read = getD-set-other issues asset s v 0 ne in
-      grind (arith, tells, read))
+    let read = getD-set-other issues asset s v 0 ne in
+    grind (arith, tells, read))
     (cases-eq s asset)
 
 -- one write of a table: the cell of account and asset, at the place p
@@ -81,12 +81,12 @@ module _ (cells : List ℕ) (accounts assets account asset p : ℕ) (size : acco
   credit-cell amount a s =
       ⊎-elim
       (λ (e : a ≡ account). ⊎-elim
-        (λ (f : s ≡ asset).
-          let here : cell cells accounts assets a s ≡ getD cells p 0 = ap (λ k. cell cells accounts assets k s) e ∙ ap (cell cells accounts assets account) f ∙ held-in in
-          let put = put-cell (getD cells p 0 + amount) a s in
-          grind (arith, tells, put, here))
-        (λ ne. let put = put-cell (getD cells p 0 + amount) a s in grind (arith, tells, put))
-        (cases-eq s asset))
+      (λ (f : s ≡ asset).
+      let here : cell cells accounts assets a s ≡ getD cells p 0 = ap (λ k. cell cells accounts assets k s) e ∙ ap (cell cells accounts assets account) f ∙ held-in in
+      let put = put-cell (getD cells p 0 + amount) a s in
+      grind (arith, tells, put, here))
+      (λ ne. let put = put-cell (getD cells p 0 + amount) a s in grind (arith, tells, put))
+      (cases-eq s asset))
       (λ ne. let put = put-cell (getD cells p 0 + amount) a s in grind (arith, tells, put))
       (cases-eq a account)
 
@@ -124,11 +124,11 @@ module _ (cells : List ℕ) (accounts assets account asset p : ℕ) (size : acco
       let put = put-cell (getD cells p 0 - amount) a s in
       ⊎-elim
       (λ (e : a ≡ account). ⊎-elim
-        (λ (f : s ≡ asset).
-          let here : cell cells accounts assets a s ≡ getD cells p 0 = ap (λ k. cell cells accounts assets k s) e ∙ ap (cell cells accounts assets account) f ∙ held-in in
-          grind (arith, tells, put, here))
-        (λ ne. grind (arith, tells, put))
-        (cases-eq s asset))
+      (λ (f : s ≡ asset).
+      let here : cell cells accounts assets a s ≡ getD cells p 0 = ap (λ k. cell cells accounts assets k s) e ∙ ap (cell cells accounts assets account) f ∙ held-in in
+      grind (arith, tells, put, here))
+      (λ ne. grind (arith, tells, put))
+      (cases-eq s asset))
       (λ ne. grind (arith, tells, put))
       (cases-eq a account)
 
@@ -147,16 +147,16 @@ module _ (cells : List ℕ) (accounts assets giver taker asset p q amount : ℕ)
       let took = held-in cells accounts assets taker asset q size ht hs to in
       ⊎-elim
       (λ (f : s ≡ asset). ⊎-elim
-        (λ (e : a ≡ giver).
-          let here : cell cells accounts assets a s ≡ getD cells p 0 = ap (λ k. cell cells accounts assets k s) e ∙ ap (cell cells accounts assets giver) f ∙ gave in
-          grind (arith, tells, outer, inner, here, apart))
-        (λ ng. ⊎-elim
-          (λ (e : a ≡ taker).
-            let here : cell cells accounts assets a s ≡ getD cells q 0 = ap (λ k. cell cells accounts assets k s) e ∙ ap (cell cells accounts assets taker) f ∙ took in
-            grind (arith, tells, outer, inner, here, apart))
-          (λ nt. grind (arith, tells, outer, inner))
-          (cases-eq a taker))
-        (cases-eq a giver))
+      (λ (e : a ≡ giver).
+      let here : cell cells accounts assets a s ≡ getD cells p 0 = ap (λ k. cell cells accounts assets k s) e ∙ ap (cell cells accounts assets giver) f ∙ gave in
+      grind (arith, tells, outer, inner, here, apart))
+      (λ ng. ⊎-elim
+      (λ (e : a ≡ taker).
+      let here : cell cells accounts assets a s ≡ getD cells q 0 = ap (λ k. cell cells accounts assets k s) e ∙ ap (cell cells accounts assets taker) f ∙ took in
+      grind (arith, tells, outer, inner, here, apart))
+      (λ nt. grind (arith, tells, outer, inner))
+      (cases-eq a taker))
+      (cases-eq a giver))
       (λ ne. grind (arith, tells, outer, inner))
       (cases-eq s asset)
 

@@ -1,5 +1,5 @@
 -- When memory can be made a register, and what that register means.
-use Prim.Native.Nat.{ℕ, zero, suc, _+_, _*_}
+use Prim.Native.Nat.{ℕ, zero, suc, _*_}
 use mathlib.Core.List.{List}
 use mathlib.Core.Bool.{Bool, false, cond, _&&_, _||_}
 use lib.Dec.{ltb, leb, eqb}
@@ -11,7 +11,7 @@ use Rattle.std.specs.declared.result.Result.the-variants.{Ok, Err}
 use Rattle.register.specs.declared.fault.MakeFault.{MakeFault}
 use Rattle.register.specs.declared.fault.MakeFault.the-variants.{BadShape, TooMuch}
 use Rattle.register.specs.Rules.{sum-to, most, Meaning}
-use Rattle.table_register.specs.Table.{cell}
+use Rattle.table_register.specs.Table.{place, cell}
 
 -- 1 to this many accounts, and 1 to this many assets.
 abbrev pub most-accounts : ℕ
@@ -22,11 +22,11 @@ most-assets = 16
 
 abbrev pub shaped : ℕ → ℕ → ℕ → Bool
 shaped accounts assets size =
-  leb 1 accounts && (leb accounts most-accounts && (leb 1 assets && (leb assets most-assets && eqb size (accounts * assets))))
+    leb 1 accounts && (leb accounts most-accounts && (leb 1 assets && (leb assets most-assets && eqb size (accounts * assets))))
 
 -- The sum of an asset's balances in memory, and whether one of the first n such sums is above the most.
 abbrev pub column : List ℕ → ℕ → ℕ → ℕ → ℕ
-column cells accounts assets asset = sum-to (λ account. getD cells (account * assets + asset) 0) accounts
+column cells accounts assets asset = sum-to (λ account. getD cells (place assets account asset) 0) accounts
 
 abbrev pub within-most : ℕ → Option ℕ
 within-most n = cond (leb n most) (Some n) None
@@ -38,9 +38,9 @@ any-over f (suc n) = any-over f n || ltb most (f n)
 -- The first reason not to make this memory a register of these counts.
 abbrev pub make-refused : List ℕ → ℕ → ℕ → Option MakeFault
 make-refused cells accounts assets =
-  cond (shaped accounts assets (length cells))
-  (cond (any-over (column cells accounts assets) assets) (Some TooMuch) None)
-  (Some BadShape)
+    cond (shaped accounts assets (length cells))
+    (cond (any-over (column cells accounts assets) assets) (Some TooMuch) None)
+    (Some BadShape)
 
 -- A register is laid out once: one that has accounts is not laid out again.
 abbrev pub lay-out-refused : ℕ → List ℕ → ℕ → ℕ → Option MakeFault

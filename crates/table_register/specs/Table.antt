@@ -12,7 +12,7 @@ place assets account asset = account * assets + asset
 
 -- The balance of an account and an asset, 0 where either is unknown.
 abbrev pub cell : List ℕ → ℕ → ℕ → ℕ → ℕ → ℕ
-cell cells accounts assets account asset = cond (ltb account accounts && ltb asset assets) (getD cells (account * assets + asset) 0) 0
+cell cells accounts assets account asset = cond (ltb account accounts && ltb asset assets) (getD cells (place assets account asset) 0) 0
 
 -- The issue of an asset, 0 where it is unknown.
 abbrev pub issued : List ℕ → ℕ → ℕ → ℕ
@@ -31,8 +31,8 @@ table-meaning cells accounts assets issues = record { accounts = accounts; asset
 -- The memory after an accepted credit, and after an accepted move.
 abbrev pub credited-cells : List ℕ → ℕ → ℕ → ℕ → ℕ → List ℕ
 credited-cells cells assets account asset amount =
-  set cells (account * assets + asset) (getD cells (account * assets + asset) 0 + amount)
+    set cells (place assets account asset) (getD cells (place assets account asset) 0 + amount)
 
 abbrev pub moved-cells : List ℕ → ℕ → ℕ → ℕ → ℕ → ℕ → List ℕ
 moved-cells cells assets giver taker asset amount =
-  set (set cells (giver * assets + asset) (getD cells (giver * assets + asset) 0 - amount)) (taker * assets + asset) (getD cells (taker * assets + asset) 0 + amount)
+    set (set cells (place assets giver asset) (getD cells (place assets giver asset) 0 - amount)) (place assets taker asset) (getD cells (place assets taker asset) 0 + amount)

@@ -25,7 +25,11 @@ fn column_sum(cells: &[u64], accounts: usize, assets: usize, asset: usize) -> Op
     Some(sum)
 }
 
-fn counted_issues(cells: &[u64], accounts: usize, assets: usize) -> Result<[u64; MOST_ASSETS], MakeFault>
+fn counted_issues(
+    cells: &[u64],
+    accounts: usize,
+    assets: usize,
+) -> Result<[u64; MOST_ASSETS], MakeFault>
     ensures fault { λ r. ⌜ refusal r ≡ make-refused (now (cells .entry)) accounts assets ⌝ }
     ensures issues { λ r. ⌜ made r (λ k. ((s : ℕ) → s < assets → getD k s 0 ≡ column (now (cells .entry)) accounts assets s)) ⌝ }
 {
@@ -46,7 +50,11 @@ fn counted_issues(cells: &[u64], accounts: usize, assets: usize) -> Result<[u64;
 }
 
 // The issue of each asset of the memory `cells` as a table of these counts.
-pub fn issues_of(cells: &[u64], accounts: usize, assets: usize) -> Result<[u64; MOST_ASSETS], MakeFault>
+pub fn issues_of(
+    cells: &[u64],
+    accounts: usize,
+    assets: usize,
+) -> Result<[u64; MOST_ASSETS], MakeFault>
     ensures refused_by_the_rules { λ r. ⌜ refusal r ≡ make-refused (now (cells .entry)) accounts assets ⌝ }
     ensures tells_each_sum { λ r. ⌜ made r (λ issues. ((s : ℕ) → s < assets → getD issues s 0 ≡ column (now (cells .entry)) accounts assets s)) ⌝ }
 {

@@ -7,7 +7,7 @@ ghost use Rattle.std.specs.declared.option.Option.the-variants.{None};
 ghost use Rattle.register.specs.Rules.{most, raised, credit-refused, transfer-refused, credit-answer, transfer-answer, with-credit, with-move, after-credit, after-transfer};
 ghost use Rattle.table_register.specs.Table.{issued};
 ghost use Rattle.day_book.specs.Entering.{apply, fits, a-credit, a-move, full, with-entry, entries-after, posts};
-ghost use Rattle.day_book.specs.DayTable.{day-cell, day-lawful, waits, Later-places-stay, Posted, Memory-after};
+ghost use Rattle.day_book.specs.DayTable.{day-cell, day-lawful, waits, Later-places-stay, Memory-after};
 ghost use Rattle.day_book.specs.DayMeaning.{means};
 use crate::day::DayBook;
 use crate::entries::MOST_ENTRIES;
@@ -111,7 +111,13 @@ impl DayBook<'_> {
         ensures memory { λ _. ⌜ Memory-after (full (waits (now (self .entry) .entries))) (means (now (self .entry))) (now (now (self .entry) .cells)) (now (now (self .exit) .cells)) ⌝ }
         ensures lender { λ _. ⌜ name (now (self .exit) .cells) ≡ name (now (self .entry) .cells) ⌝ }
     {
-        self.enter(Entry { credit: true, giver: account, taker: account, asset, amount });
+        self.enter(Entry {
+            credit: true,
+            giver: account,
+            taker: account,
+            asset,
+            amount,
+        });
     }
 
     // Enters an accepted move.
@@ -122,7 +128,13 @@ impl DayBook<'_> {
         ensures memory { λ _. ⌜ Memory-after (full (waits (now (self .entry) .entries))) (means (now (self .entry))) (now (now (self .entry) .cells)) (now (now (self .exit) .cells)) ⌝ }
         ensures lender { λ _. ⌜ name (now (self .exit) .cells) ≡ name (now (self .entry) .cells) ⌝ }
     {
-        self.enter(Entry { credit: false, giver, taker, asset, amount });
+        self.enter(Entry {
+            credit: false,
+            giver,
+            taker,
+            asset,
+            amount,
+        });
     }
 }
 
@@ -139,7 +151,13 @@ pub impl Transfers for DayBook<'_> as DayBookTransfers {
         Ok(())
     }
 
-    fn transfer(&mut self, giver: usize, taker: usize, asset: usize, amount: u64) -> Result<(), RegisterFault>
+    fn transfer(
+        &mut self,
+        giver: usize,
+        taker: usize,
+        asset: usize,
+        amount: u64,
+    ) -> Result<(), RegisterFault>
         ensures answers_by_the_rules { λ r. ⌜ r ≡ transfer-answer (means (now (self .entry))) giver taker asset amount ⌝ }
         ensures meaning_follows_the_rules { λ _. ⌜ means (now (self .exit)) ≡ after-transfer (means (now (self .entry))) giver taker asset amount ⌝ }
         ensures memory_is_kept { λ _. ⌜ name (now (self .exit) .cells) ≡ name (now (self .entry) .cells) ⌝ }

@@ -15,8 +15,8 @@ use crate::entries::Entries;
 use crate::entries::MOST_ENTRIES;
 use crate::entry::Entry;
 use register::fault::MakeFault;
-use table_register::issues::issues_of;
 use register::limits::MOST_ASSETS;
+use table_register::issues::issues_of;
 
 impl<'a> DayBook<'a> {
     // A day book of no account and no asset over `cells`, to be laid out.
@@ -26,9 +26,24 @@ impl<'a> DayBook<'a> {
         ensures memory_is_as_it_was { λ r. ⌜ now (r .cells) ≡ now (cells .entry) ⌝ }
         ensures memory_is_kept { λ r. ⌜ name (r .cells) ≡ name (cells .entry) ⌝ }
     {
-        let blank = Entry { credit: false, giver: 0, taker: 0, asset: 0, amount: 0 };
-        let entries = Entries { table: [blank; MOST_ENTRIES], count: 0 };
-        DayBook { cells, accounts: 0, assets: 0, issues: [0; MOST_ASSETS], entries }
+        let blank = Entry {
+            credit: false,
+            giver: 0,
+            taker: 0,
+            asset: 0,
+            amount: 0,
+        };
+        let entries = Entries {
+            table: [blank; MOST_ENTRIES],
+            count: 0,
+        };
+        DayBook {
+            cells,
+            accounts: 0,
+            assets: 0,
+            issues: [0; MOST_ASSETS],
+            entries,
+        }
     }
 }
 

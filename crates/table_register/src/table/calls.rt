@@ -8,11 +8,11 @@ ghost use Rattle.register.specs.Rules.{credit-refused, transfer-refused, credit
 ghost use Rattle.table_register.specs.Table.{cell, issued, credited-cells, moved-cells};
 ghost use Rattle.table_register.specs.Lawful.{table-lawful};
 ghost use Rattle.table_register.specs.TableMeaning.{means};
+use crate::table::TableRegister;
 use register::balances::Balances;
 use register::checks::check_credit;
 use register::checks::check_transfer;
 use register::fault::RegisterFault;
-use crate::table::TableRegister;
 use register::transfers::Transfers;
 
 impl TableRegister<'_> {
@@ -103,7 +103,13 @@ pub impl Transfers for TableRegister<'_> as TableTransfers {
         Ok(())
     }
 
-    fn transfer(&mut self, giver: usize, taker: usize, asset: usize, amount: u64) -> Result<(), RegisterFault>
+    fn transfer(
+        &mut self,
+        giver: usize,
+        taker: usize,
+        asset: usize,
+        amount: u64,
+    ) -> Result<(), RegisterFault>
         ensures answers_by_the_rules { λ r. ⌜ r ≡ transfer-answer (means (now (self .entry))) giver taker asset amount ⌝ }
         ensures meaning_follows_the_rules { λ _. ⌜ means (now (self .exit)) ≡ after-transfer (means (now (self .entry))) giver taker asset amount ⌝ }
         ensures memory_is_kept { λ _. ⌜ name (now (self .exit) .cells) ≡ name (now (self .entry) .cells) ⌝ }

@@ -8,10 +8,10 @@ ghost use Rattle.std.specs.declared.option.Option.the-variants.{None};
 ghost use Rattle.register.specs.Rules.{answer, unless-refused};
 ghost use Rattle.table_register.specs.Make.{column, make-refused, lay-out-refused, refusal, memory-meaning, nothing};
 ghost use Rattle.table_register.specs.TableMeaning.{means};
-use register::fault::MakeFault;
 use crate::issues::issues_of;
-use register::limits::MOST_ASSETS;
 use crate::table::TableRegister;
+use register::fault::MakeFault;
+use register::limits::MOST_ASSETS;
 
 impl<'a> TableRegister<'a> {
     // A register of no account and no asset over `cells`, to be laid out.
@@ -20,7 +20,12 @@ impl<'a> TableRegister<'a> {
         ensures memory_is_as_it_was { λ r. ⌜ now (r .cells) ≡ now (cells .entry) ⌝ }
         ensures memory_is_kept { λ r. ⌜ name (r .cells) ≡ name (cells .entry) ⌝ }
     {
-        TableRegister { cells, accounts: 0, assets: 0, issues: [0; MOST_ASSETS] }
+        TableRegister {
+            cells,
+            accounts: 0,
+            assets: 0,
+            issues: [0; MOST_ASSETS],
+        }
     }
 }
 

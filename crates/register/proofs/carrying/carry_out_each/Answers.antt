@@ -23,12 +23,13 @@ loop-instruction-again g c =
     let a-is = c .carry-out-a .ensures .answers-by-the-rules ∙ ap (λ k. instruction-answer k o) (inv .0) in
     let b-is = c .carry-out-b .ensures .answers-by-the-rules ∙ ap (λ k. instruction-answer k o) (inv .1) in
     let res : c .same-answer .result ≡ alike (instruction-answer (after-all m (take i es)) o) (instruction-answer (after-all n (take i es)) o) = c .same-answer .ensures ∙ ap (λ k. alike k (c .carry-out-b .result)) a-is ∙ ap (λ k. alike (instruction-answer (after-all m (take i es)) o) k) b-is in
-    let test : c .if-same-answer .same ≡ (c .same-answer .result && c .loop-instruction .same) = elim (c .if-same-answer .came) [ then-same-answer w ↦ w .same-is ∙ sym (ap (λ b. b && c .loop-instruction .same) (w .if-same-answer .taken)) | else-same-answer w ↦ w .same-is ∙ w .if-same-answer .left ∙ sym (ap (λ b. b && c .loop-instruction .same) (w .if-same-answer .left)) ] in
-    (c .carry-out-a .ensures .meaning-follows-the-rules ∙ ap (λ k. after-instruction k o) (inv .0) ∙ sym (all-more m es i (Credit 0 0 0) h),
-     c .carry-out-b .ensures .meaning-follows-the-rules ∙ ap (λ k. after-instruction k o) (inv .1) ∙ sym (all-more n es i (Credit 0 0 0) h),
-     test ∙ ap (λ b. b && c .loop-instruction .same) res ∙ ap (λ t. alike (instruction-answer (after-all m (take i es)) o) (instruction-answer (after-all n (take i es)) o) && t) (inv .2) ∙ sym (alike-more m n es i (Credit 0 0 0) h),
-     c .carry-out-a .ensures .memory-is-kept ∙ inv .3,
-     c .carry-out-b .ensures .memory-is-kept ∙ inv .4)
+    let test : c .if-same-answer .same ≡ (c .same-answer .result && c .loop-instruction .same) = elim (c .if-same-answer .came) [ then-same-answer w ↦ w .same-is ∙ sym (ap (λ b. b && c .loop-instruction .same) (w .if-same-answer .taken)) | else-same-answer w ↦ w .same-is ∙ w .if-same-answer .left ∙ sym (ap (λ b. b && c .loop-instruction .same) (w .if-same-answer .left)) ] in (
+      c .carry-out-a .ensures .meaning-follows-the-rules ∙ ap (λ k. after-instruction k o) (inv .0) ∙ sym (all-more m es i (Credit 0 0 0) h),
+      c .carry-out-b .ensures .meaning-follows-the-rules ∙ ap (λ k. after-instruction k o) (inv .1) ∙ sym (all-more n es i (Credit 0 0 0) h),
+      test ∙ ap (λ b. b && c .loop-instruction .same) res ∙ ap (λ t. alike (instruction-answer (after-all m (take i es)) o) (instruction-answer (after-all n (take i es)) o) && t) (inv .2) ∙ sym (alike-more m n es i (Credit 0 0 0) h),
+      c .carry-out-a .ensures .memory-is-kept ∙ inv .3,
+      c .carry-out-b .ensures .memory-is-kept ∙ inv .4,
+    )
 
 pub returns : need.returns
 returns g c =

@@ -2,7 +2,7 @@ use borrow.Author.Needs.{needs}
 use mathlib.Core.Path.{_≡_, refl, sym, ap, _∙_}
 use mathlib.Core.Logic.{inl, inr}
 use Rattle.std.specs.declared.option.Option.the-variants.{None}
-use Rattle.register.specs.Rules.{Meaning, answer, unless-refused}
+use Rattle.register.specs.Rules.{Meaning, unless-refused}
 use Rattle.register.specs.Registers.{meaning}
 use Rattle.register.specs.Deliveries.{delivery-refused, units-moved, money-moved}
 use Rattle.register.proofs.Meanings.{refused-keeps, accepted-none}

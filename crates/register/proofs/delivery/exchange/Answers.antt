@@ -1,4 +1,4 @@
-use mathlib.Core.Path.{_≡_, ap, _∙_}
+use mathlib.Core.Path.{ap, _∙_}
 use Rattle.register.specs.Rules.{Meaning, unless-refused}
 use Rattle.register.specs.Registers.{meaning}
 use Rattle.register.specs.Deliveries.{units-refused, money-refused, units-moved, money-moved}

@@ -1,13 +1,10 @@
-use borrow.Author.Needs.{needs}
 use native.Mathlib.Omega.{arith}
 use native.Mathlib.Nat.{mul-comm}
-use mathlib.Core.Path.{_≡_, refl, sym, ap, _∙_}
-use Prim.Native.Nat.{ℕ, _<_, _≤_, _+_, _*_}
-use lib.ListN.{length, getD}
+use Prim.Native.Nat.{ℕ, _<_, _+_, _*_}
+use lib.ListN.{getD}
 use Rattle.std.proofs.shelf.Ways.{tells}
 use Rattle.std.proofs.shelf.Bits.{mul-add-lt}
 use Rattle.register.specs.Rules.{most, sum-to}
-use Rattle.table_register.specs.Make.{column}
 use Rattle.register.proofs.Sums.{sum-more, sum-grows}
 use Rattle.table_register.proofs.issues.column_sum.Needs as need
 

@@ -1,4 +1,4 @@
-use Prim.Native.Nat.{_≤_, _+_, _*_}
+use Prim.Native.Nat.{_≤_}
 use mathlib.Core.Path.{_≡_}
 use Rattle.register.specs.Rules.{most}
 use Rattle.table_register.specs.Make.{column}

@@ -1,15 +1,13 @@
-use borrow.Author.Needs.{needs}
 use borrow.Author.Count.{below-more}
 use native.Mathlib.Omega.{arith}
-use mathlib.Core.Path.{_≡_, refl, sym, ap, _∙_}
-use mathlib.Core.Bool.{true, false}
+use mathlib.Core.Path.{_≡_, _∙_}
 use mathlib.Core.Logic.{_≢_}
-use Prim.Native.Nat.{ℕ, _<_, _≤_, _+_, _*_}
-use lib.ListN.{length, getD, length-set}
+use Prim.Native.Nat.{ℕ, _<_, _≤_}
+use lib.ListN.{length, length-set}
 use lib.Seq.{getD-set-same, getD-set-other}
 use Rattle.std.proofs.shelf.Ways.{tells}
 use Rattle.register.specs.Rules.{most}
-use Rattle.table_register.specs.Make.{column, any-over}
+use Rattle.table_register.specs.Make.{column}
 use Rattle.table_register.proofs.Overs.{over-found, over-none, most-none, most-some, most-is}
 use Rattle.table_register.proofs.issues.counted_issues.Needs as need
 
@@ -30,9 +28,10 @@ loop-asset-again c =
     let f : ℕ → ℕ = column (c .args .cells .now) (c .args .accounts) (c .args .assets) in
     let here = c .in-Some .ensures tt in
     let le : f (c .loop-asset .asset) ≤ most = most-some _ _ here in
-    let is : c .in-Some .sum ≡ f (c .loop-asset .asset) = most-is _ _ here in
-    (over-none f (c .loop-asset .asset) (c .loop-asset .inv .0) le,
-     below-more _ _
-       (λ k h. let ne : k ≢ c .loop-asset .asset = omega arith in rw getD-set-other (c .loop-asset .inv .1 k h))
-       (let lt : c .loop-asset .asset < length (c .loop-asset .issues) = omega (arith, c .loop-asset .inv .2) in rw getD-set-same is),
-     length-set _ _ _ ∙ c .loop-asset .inv .2)
+    let is : c .in-Some .sum ≡ f (c .loop-asset .asset) = most-is _ _ here in (
+      over-none f (c .loop-asset .asset) (c .loop-asset .inv .0) le,
+      below-more _ _
+          (λ k h. let ne : k ≢ c .loop-asset .asset = omega arith in rw getD-set-other (c .loop-asset .inv .1 k h))
+          (let lt : c .loop-asset .asset < length (c .loop-asset .issues) = omega (arith, c .loop-asset .inv .2) in rw getD-set-same is),
+      length-set _ _ _ ∙ c .loop-asset .inv .2,
+    )

@@ -36,11 +36,28 @@ ghost-self c =
     let covered : DayCovered (y .cells .now) (y .accounts) (y .assets) (es ++ e ∷ []) (set (y .issues) (e .asset) (getD (y .issues) (e .asset) 0 + added e)) = push-covered (y .cells .now) (y .accounts) (y .assets) es e ok (y .issues) long (y .covered) in
     let covered′ = subst (λ (n : ℕ). DayCovered (y .cells .now) (y .accounts) (y .assets) (es ++ e ∷ []) (set (y .issues) (e .asset) (getD (y .issues) (e .asset) 0 + n))) (sym m) covered in
     let bounded = push-bounded (y .cells .now) (y .accounts) (y .assets) es e ok (y .issues) long room (y .bounded) in
-    let bounded′ = subst (λ (n : ℕ). Bounded (y .assets) (set (y .issues) (e .asset) (getD (y .issues) (e .asset) 0 + n))) (sym m) bounded in
-    (y .«few_accounts», (y .«few_assets», (y .size, (omega (arith, c .make-room .ensures .bound), (length-set (y .entries .table) (y .entries .count) e ∙ y .long,
-      (ap (all-fit (y .accounts) (y .assets) (cell (y .cells .now) (y .accounts) (y .assets))) pend ∙ push-fit (y .cells .now) (y .accounts) (y .assets) es e ok (y .fit),
-      (subst (λ (l : List Entry). DayCovered (y .cells .now) (y .accounts) (y .assets) l (set (y .issues) (e .asset) (getD (y .issues) (e .asset) 0 + c .issued-more .result))) (sym pend) covered′,
-      (bounded′, tt))))))))
+    let bounded′ = subst (λ (n : ℕ). Bounded (y .assets) (set (y .issues) (e .asset) (getD (y .issues) (e .asset) 0 + n))) (sym m) bounded in (
+      y .«few_accounts»,
+      (
+        y .«few_assets»,
+        (
+          y .size,
+          (
+            omega (arith, c .make-room .ensures .bound),
+            (
+              length-set (y .entries .table) (y .entries .count) e ∙ y .long,
+              (
+                ap (all-fit (y .accounts) (y .assets) (cell (y .cells .now) (y .accounts) (y .assets))) pend ∙ push-fit (y .cells .now) (y .accounts) (y .assets) es e ok (y .fit),
+                (
+                  subst (λ (l : List Entry). DayCovered (y .cells .now) (y .accounts) (y .assets) l (set (y .issues) (e .asset) (getD (y .issues) (e .asset) 0 + c .issued-more .result))) (sym pend) covered′,
+                  (bounded′, tt),
+                ),
+              ),
+            ),
+          ),
+        ),
+      ),
+    )
 
 pub returns : need.returns
 returns c =
@@ -63,16 +80,16 @@ returns c =
       counts = (ap (λ (k : Meaning). k .accounts) same, ap (λ (k : Meaning). k .assets) same);
       balances = λ a s. ap (λ (l : List Entry). day-cell (y .cells .now) (y .accounts) (y .assets) l a s) pend ∙ push-day (y .cells .now) (y .accounts) (y .assets) es e ok a s ∙ ap (λ (k : Meaning). apply e a s (k .balance a s)) same;
       issues = λ s.
-        let is = ap (λ n. issued (set (y .issues) (e .asset) (getD (y .issues) (e .asset) 0 + n)) (y .assets) s) m ∙ push-issue (y .cells .now) (y .accounts) (y .assets) es e ok (y .issues) long s in
-        let eq : issued (y .issues) (y .assets) s ≡ issued (x .issues) (x .assets) s = ap (λ (k : Meaning). k .issue s) same in
-        grind (arith, tells, is, eq);
+          let is = ap (λ n. issued (set (y .issues) (e .asset) (getD (y .issues) (e .asset) 0 + n)) (y .assets) s) m ∙ push-issue (y .cells .now) (y .accounts) (y .assets) es e ok (y .issues) long s in
+          let eq : issued (y .issues) (y .assets) s ≡ issued (x .issues) (x .assets) s = ap (λ (k : Meaning). k .issue s) same in
+          grind (arith, tells, is, eq);
       entries = ⊎-elim
-        (λ (f : full (waits (x .entries)) ≡ true). pend ∙ ap (λ (l : List Entry). l ++ e ∷ []) (emptied f) ∙ sym (cond-true (full (waits (x .entries))) (e ∷ []) (waits (x .entries) ++ e ∷ []) f))
-        (λ (f : full (waits (x .entries)) ≡ false). pend ∙ ap (λ (q : Entries). waits q ++ e ∷ []) (c .make-room .ensures .left (under f) .1) ∙ sym (cond-false (full (waits (x .entries))) (e ∷ []) (waits (x .entries) ++ e ∷ []) f))
-        (cases-bool (full (waits (x .entries))));
+          (λ (f : full (waits (x .entries)) ≡ true). pend ∙ ap (λ (l : List Entry). l ++ e ∷ []) (emptied f) ∙ sym (cond-true (full (waits (x .entries))) (e ∷ []) (waits (x .entries) ++ e ∷ []) f))
+          (λ (f : full (waits (x .entries)) ≡ false). pend ∙ ap (λ (q : Entries). waits q ++ e ∷ []) (c .make-room .ensures .left (under f) .1) ∙ sym (cond-false (full (waits (x .entries))) (e ∷ []) (waits (x .entries) ++ e ∷ []) f))
+          (cases-bool (full (waits (x .entries))));
       memory = ⊎-elim
-        (λ (f : full (waits (x .entries)) ≡ true). subst (λ (b : Bool). Memory-after b (means x) (x .cells .now) (y .cells .now)) (sym f) (record { tells = posted-tells x y (emptied f) same; later = c .make-room .ensures .later }))
-        (λ (f : full (waits (x .entries)) ≡ false). subst (λ (b : Bool). Memory-after b (means x) (x .cells .now) (y .cells .now)) (sym f) (c .make-room .ensures .left (under f) .0))
-        (cases-bool (full (waits (x .entries))));
+          (λ (f : full (waits (x .entries)) ≡ true). subst (λ (b : Bool). Memory-after b (means x) (x .cells .now) (y .cells .now)) (sym f) (record { tells = posted-tells x y (emptied f) same; later = c .make-room .ensures .later }))
+          (λ (f : full (waits (x .entries)) ≡ false). subst (λ (b : Bool). Memory-after b (means x) (x .cells .now) (y .cells .now)) (sym f) (c .make-room .ensures .left (under f) .0))
+          (cases-bool (full (waits (x .entries))));
       lender = c .make-room .ensures .lender;
     }

@@ -1,10 +1,5 @@
-use borrow.Author.Needs.{needs}
 use native.Mathlib.Omega.{arith}
-use mathlib.Core.Path.{_≡_, refl, sym, ap, _∙_}
-use Prim.Native.Nat.{ℕ, _<_, _≤_}
-use Rattle.std.proofs.shelf.Ways.{tells}
-use Rattle.day_book.specs.Entering.{apply-all, pending}
-use Rattle.day_book.specs.DayTable.{day-cell}
+use Rattle.day_book.specs.Entering.{pending}
 use Rattle.day_book.proofs.Posts.{day-le, day-in}
 use Rattle.day_book.proofs.day.DayBook.known_balance.Needs as need
 

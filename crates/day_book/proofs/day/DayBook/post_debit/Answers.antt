@@ -41,11 +41,28 @@ ghost-self c =
     let cells′ : List ℕ = set cells p (getD cells p 0 - e .amount) in
     let es′ : pending (set table 0 (half e)) 0 (x .entries .count) ≡ half e ∷ rest = pending-set table 0 (x .entries .count) (half e) (c .pre .some) (in-table x (c .pre .some)) in
     let same = debit-applies cells (x .accounts) (x .assets) e rest fit (x .size) p at (c .pre .moves) in
-    let covered′ = same-covered cells cells′ (x .accounts) (x .assets) (e ∷ rest) (half e ∷ rest) same (x .issues) (covered-from-oldest x (c .pre .some)) in
-    (x .«few_accounts», (x .«few_assets», (size-set _ cells p (getD cells p 0 - e .amount) (x .size), (x .«few_entries», (length-set table 0 (half e) ∙ x .long,
-      (ap (all-fit (x .accounts) (x .assets) (cell cells′ (x .accounts) (x .assets))) es′ ∙ debit-fit cells (x .accounts) (x .assets) e rest fit (x .size) p at (c .pre .moves),
-      (subst (λ (es : List Entry). DayCovered cells′ (x .accounts) (x .assets) es (x .issues)) (sym es′) covered′,
-      (x .bounded, tt))))))))
+    let covered′ = same-covered cells cells′ (x .accounts) (x .assets) (e ∷ rest) (half e ∷ rest) same (x .issues) (covered-from-oldest x (c .pre .some)) in (
+      x .«few_accounts»,
+      (
+        x .«few_assets»,
+        (
+          size-set _ cells p (getD cells p 0 - e .amount) (x .size),
+          (
+            x .«few_entries»,
+            (
+              length-set table 0 (half e) ∙ x .long,
+              (
+                ap (all-fit (x .accounts) (x .assets) (cell cells′ (x .accounts) (x .assets))) es′ ∙ debit-fit cells (x .accounts) (x .assets) e rest fit (x .size) p at (c .pre .moves),
+                (
+                  subst (λ (es : List Entry). DayCovered cells′ (x .accounts) (x .assets) es (x .issues)) (sym es′) covered′,
+                  (x .bounded, tt),
+                ),
+              ),
+            ),
+          ),
+        ),
+      ),
+    )
 
 pub returns : need.returns
 returns c =
@@ -60,7 +77,7 @@ returns c =
     let es′ : pending (set table 0 (half e)) 0 (x .entries .count) ≡ half e ∷ rest = pending-set table 0 (x .entries .count) (half e) (c .pre .some) (in-table x (c .pre .some)) in
     let same = debit-applies cells (x .accounts) (x .assets) e rest fit (x .size) p (c .place-from .ensures .place) (c .pre .moves) in
     let back : (a s : ℕ) → apply-all (pending (set table 0 (half e)) 0 (x .entries .count)) a s (cell cells′ (x .accounts) (x .assets) a s) ≡ apply-all (waits (x .entries)) a s (cell cells (x .accounts) (x .assets) a s) =
-        λ a s. ap (λ es. apply-all es a s (cell cells′ (x .accounts) (x .assets) a s)) es′ ∙ same a s ∙ ap (λ es. apply-all es a s (cell cells (x .accounts) (x .assets) a s)) (sym (oldest-first x (c .pre .some))) in
+    λ a s. ap (λ es. apply-all es a s (cell cells′ (x .accounts) (x .assets) a s)) es′ ∙ same a s ∙ ap (λ es. apply-all es a s (cell cells (x .accounts) (x .assets) a s)) (sym (oldest-first x (c .pre .some))) in
     let lt : 0 < length table = omega (arith, in-table x (c .pre .some), c .pre .some) in
     record {
       meaning = same-meaning _ _ refl refl (same-day cells cells′ (x .accounts) (x .assets) (waits (x .entries)) (pending (set table 0 (half e)) 0 (x .entries .count)) back) (λ s. refl);

@@ -1,9 +1,5 @@
-use mathlib.Core.Path.{_≡_, sym, ap, _∙_}
-use mathlib.Core.List.{List, []}
-use Prim.Native.Nat.{ℕ}
-use Rattle.register.specs.Rules.{Meaning}
-use Rattle.table_register.specs.Table.{cell}
-use Rattle.day_book.specs.declared.entry.Entry.{Entry}
+use mathlib.Core.Path.{_≡_, ap}
+use mathlib.Core.List.{[]}
 use Rattle.day_book.specs.Entering.{pending}
 use Rattle.day_book.specs.DayTable.{waits}
 use Rattle.day_book.proofs.Shifts.{posted-tells}

@@ -1,8 +1,6 @@
 use native.Mathlib.Omega.{arith}
 use mathlib.Core.Path.{_≡_, refl, sym, ap, subst, _∙_}
 use mathlib.Core.List.{List, []}
-use mathlib.Core.Bool.{true}
-use Prim.Native.Nat.{ℕ}
 use Rattle.table_register.specs.Table.{cell}
 use Rattle.register.proofs.Meanings.{same-meaning}
 use Rattle.table_register.proofs.Makes.{made-shape, made-covered, made-bounded, made-issues}
@@ -19,11 +17,28 @@ ghost-self c =
     let n = c .args .accounts in
     let m = c .args .assets in
     let shape = made-shape cells n m (c .pre .accepted) in
-    let none : waits (x .entries) ≡ [] = none-fit (x .accounts) (x .assets) (cell cells (x .accounts) (x .assets)) (waits (x .entries)) (c .pre .empty) (x .fit) in
-    (shape .1 .0, (shape .1 .1 .1 .0, (omega (arith, shape .1 .1 .1 .1), (x .«few_entries», (x .long,
-      (ap (all-fit n m (cell cells n m)) none,
-      (subst (λ (es : List Entry). DayCovered cells n m es (c .args .issues)) (sym none) (no-entries-covered cells n m (c .args .issues) (made-covered cells n m (c .pre .accepted) (c .args .issues) (c .pre .counted))),
-      (made-bounded cells n m (c .pre .accepted) (c .args .issues) (c .pre .counted), tt))))))))
+    let none : waits (x .entries) ≡ [] = none-fit (x .accounts) (x .assets) (cell cells (x .accounts) (x .assets)) (waits (x .entries)) (c .pre .empty) (x .fit) in (
+      shape .1 .0,
+      (
+        shape .1 .1 .1 .0,
+        (
+          omega (arith, shape .1 .1 .1 .1),
+          (
+            x .«few_entries»,
+            (
+              x .long,
+              (
+                ap (all-fit n m (cell cells n m)) none,
+                (
+                  subst (λ (es : List Entry). DayCovered cells n m es (c .args .issues)) (sym none) (no-entries-covered cells n m (c .args .issues) (made-covered cells n m (c .pre .accepted) (c .args .issues) (c .pre .counted))),
+                  (made-bounded cells n m (c .pre .accepted) (c .args .issues) (c .pre .counted), tt),
+                ),
+              ),
+            ),
+          ),
+        ),
+      ),
+    )
 
 pub returns : need.returns
 returns c =

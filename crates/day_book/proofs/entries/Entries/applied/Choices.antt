@@ -1,4 +1,4 @@
-use Prim.Native.Nat.{_≤_, _<_, _+_, _*_, _^_}
+use Prim.Native.Nat.{_<_, _+_, _*_, _^_}
 use mathlib.Core.Path.{_≡_}
 use Rattle.day_book.specs.Entering.{apply-all, pending}
 use Rattle.day_book.proofs.entries.Entries.applied.Given as given

@@ -9,10 +9,19 @@ ghost-self c =
     let cells = c .args .self .now .cells .now in
     let n = c .args .accounts in
     let m = c .args .assets in
-    let shape = made-shape cells n m (c .pre .accepted) in
-    (shape .1 .0, (shape .1 .1 .1 .0, (omega (arith, shape .1 .1 .1 .1),
-      (made-covered cells n m (c .pre .accepted) (c .args .issues) (c .pre .counted),
-      (made-bounded cells n m (c .pre .accepted) (c .args .issues) (c .pre .counted), tt)))))
+    let shape = made-shape cells n m (c .pre .accepted) in (
+      shape .1 .0,
+      (
+        shape .1 .1 .1 .0,
+        (
+          omega (arith, shape .1 .1 .1 .1),
+          (
+            made-covered cells n m (c .pre .accepted) (c .args .issues) (c .pre .counted),
+            (made-bounded cells n m (c .pre .accepted) (c .args .issues) (c .pre .counted), tt),
+          ),
+        ),
+      ),
+    )
 
 pub returns : need.returns
 returns c =
