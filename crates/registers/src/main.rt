@@ -2,6 +2,7 @@
 // same balances, and prints each answer, the balances at the end and the memory that is left; then deliveries
 // against payment between each two makes.
 mod answers;
+mod lending;
 mod lists;
 mod runs;
 
@@ -9,6 +10,7 @@ use crate::runs::run_both;
 use crate::runs::run_day_book;
 use crate::runs::run_deliveries_from_day_books;
 use crate::runs::run_deliveries_from_tables;
+use crate::runs::run_lent;
 use crate::runs::run_makings;
 use crate::runs::run_table;
 use std::io;
@@ -17,6 +19,7 @@ fn main(rt: LibcRuntime) -> io::Result<()> {
     run_makings(&rt)?;
     run_table(&rt)?;
     run_day_book(&rt)?;
+    run_lent(&rt)?;
     run_both(&rt)?;
     run_deliveries_from_tables(&rt)?;
     run_deliveries_from_day_books(&rt)

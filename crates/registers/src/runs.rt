@@ -4,6 +4,8 @@ use crate::answers::print_balances;
 use crate::answers::print_deliveries;
 use crate::answers::print_making;
 use crate::answers::print_memory;
+use crate::lending::carry_out_in_day_book;
+use crate::lending::carry_out_in_table;
 use crate::lists::ACCOUNTS;
 use crate::lists::ASSETS;
 use crate::lists::OPENING;
@@ -68,6 +70,18 @@ pub(crate) fn run_day_book(rt: &LibcRuntime) -> io::Result<()> {
         print_balances(rt, "day", &day)?;
     }
     print_memory(rt, "day", &cells)
+}
+
+// The same list in memory that is lent to a register and had back.
+pub(crate) fn run_lent(rt: &LibcRuntime) -> io::Result<()> {
+    let mut first = OPENING;
+    let made = carry_out_in_table(&mut first, ACCOUNTS, ASSETS, &refusals());
+    print_making(rt, "lent to a table", made)?;
+    print_memory(rt, "lent to a table", &first)?;
+    let mut second = OPENING;
+    let made = carry_out_in_day_book(&mut second, ACCOUNTS, ASSETS, &refusals());
+    print_making(rt, "lent to a day book", made)?;
+    print_memory(rt, "lent to a day book", &second)
 }
 
 // Both makes, from the same balances, answer alike.
