@@ -13,7 +13,7 @@ use lib.ListN.{length, getD, take, drop, length-drop}
 use lib.Seq.{ext-getD, length-take-le, getD-take, getD-drop}
 use native.Mathlib.Omega.{arith}
 use Rattle.day_book.specs.declared.entry.Entry.{Entry}
-use Rattle.day_book.specs.Entering.{apply, fits, all-fit, pending, blank}
+use Rattle.day_book.specs.Entering.{apply, most-entries, fits, all-fit, pending, blank}
 use Rattle.day_book.specs.declared.day.DayBook.{DayBook}
 use Rattle.day_book.specs.DayTable.{day-cell, DayCovered, waits}
 use Rattle.day_book.specs.DayMeaning.{means}
@@ -52,8 +52,8 @@ no-entries-covered cells accounts assets issues table s =
     let sums = sum-ext (λ a. day-cell cells accounts assets [] a s) (λ a. cell cells accounts assets a s) accounts (λ a l. no-entries cells accounts assets a s) in
     omega (arith, sums, table s)
 
-pub under-64 : (n k : ℕ) → n ≡ k → k ≤ 64 → eqb n 64 ≡ false → k < 64
-under-64 n k same few f = grind (arith, tells)
+pub under-most : (n k : ℕ) → n ≡ k → k ≤ most-entries → eqb n most-entries ≡ false → k < most-entries
+under-most n k same few f = grind (arith, tells)
 
 -- where nothing waits, the memory alone tells the balances
 pub posted-tells : (x y : DayBook) → waits (y .entries) ≡ [] → means y ≡ means x → (a s : ℕ) → cell (y .cells .now) (x .accounts) (x .assets) a s ≡ means x .balance a s

@@ -2,7 +2,7 @@
 ghost use mathlib.Core.Path.{_≡_};
 ghost use Prim.Native.Nat.{_+_, _-_, _<_, _≤_};
 ghost use lib.ListN.{length};
-ghost use Rattle.day_book.specs.Entering.{apply-all, pending};
+ghost use Rattle.day_book.specs.Entering.{apply-all, most-entries, pending};
 use crate::entry::Entry;
 
 // The most entries that wait: one accepted while so many wait posts them all first.
@@ -18,7 +18,7 @@ pub struct Entries {
 impl Entries {
     // The balance of an account and asset with all entries applied, `held` before them.
     pub(crate) fn applied(&self, account: usize, asset: usize, held: u64) -> u128
-        requires few { ⌜ now self .count ≤ 64 ⌝ }
+        requires few { ⌜ now self .count ≤ most-entries ⌝ }
         ensures { λ r. ⌜ r ≡ apply-all (pending (now (self .entry) .table) 0 (now (self .entry) .count)) account asset held ⌝ }
     {
         let mut value = u128::from(held);
@@ -31,7 +31,7 @@ impl Entries {
     // Moves all but the oldest up by one place.
     fn move_up(&mut self)
         requires some { ⌜ 0 < now self .count ⌝ }
-        requires few { ⌜ now self .count ≤ 64 ⌝ }
+        requires few { ⌜ now self .count ≤ most-entries ⌝ }
         requires long { ⌜ now self .count ≤ length (now self .table) ⌝ }
         ensures rest { λ _. ⌜ pending (now (self .exit) .table) 0 (now (self .entry) .count - 1) ≡ pending (now (self .entry) .table) 1 (now (self .entry) .count) ⌝ }
         ensures count { λ _. ⌜ now (self .exit) .count ≡ now (self .entry) .count ⌝ }
@@ -47,7 +47,7 @@ impl Entries {
     // Lets the oldest go.
     pub(crate) fn drop_first(&mut self)
         requires some { ⌜ 0 < now self .count ⌝ }
-        requires few { ⌜ now self .count ≤ 64 ⌝ }
+        requires few { ⌜ now self .count ≤ most-entries ⌝ }
         requires long { ⌜ now self .count ≤ length (now self .table) ⌝ }
         ensures rest { λ _. ⌜ pending (now (self .exit) .table) 0 (now (self .exit) .count) ≡ pending (now (self .entry) .table) 1 (now (self .entry) .count) ⌝ }
         ensures count { λ _. ⌜ now (self .exit) .count + 1 ≡ now (self .entry) .count ⌝ }

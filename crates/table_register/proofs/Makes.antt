@@ -11,13 +11,13 @@ use Rattle.std.proofs.shelf.Tests.{cases-lt}
 use Rattle.std.proofs.shelf.Ways.{tells}
 use Rattle.register.specs.Rules.{sum-to}
 use Rattle.table_register.specs.Table.{cell, issued, Covered, Bounded}
-use Rattle.table_register.specs.Make.{column, any-over, make-refused}
+use Rattle.table_register.specs.Make.{most-accounts, most-assets, column, any-over, make-refused}
 use Rattle.register.proofs.Sums.{sum-ext, sum-zero}
 use Rattle.table_register.proofs.Overs.{none-over}
 use Rattle.table_register.proofs.Tables.{cell-in, issued-in}
 
 module _ (cells : List ℕ) (accounts assets : ℕ) (accepted : make-refused cells accounts assets ≡ None) where
-  pub made-shape : (1 ≤ accounts) × ((accounts ≤ 1024) × ((1 ≤ assets) × ((assets ≤ 16) × (length cells ≡ accounts * assets))))
+  pub made-shape : (1 ≤ accounts) × ((accounts ≤ most-accounts) × ((1 ≤ assets) × ((assets ≤ most-assets) × (length cells ≡ accounts * assets))))
   made-shape = (grind (arith, tells), (grind (arith, tells), (grind (arith, tells), (grind (arith, tells), grind (arith, tells)))))
 
   pub made-none : any-over (column cells accounts assets) assets ≡ false

@@ -3,7 +3,7 @@ ghost use mathlib.Core.Path.{_≡_};
 ghost use Prim.Native.Nat.{ℕ, _*_, _<_, _≤_};
 ghost use lib.ListN.{length, getD};
 ghost use Rattle.std.specs.Vec.{made};
-ghost use Rattle.table_register.specs.Make.{column, within-most, make-refused, refusal};
+ghost use Rattle.table_register.specs.Make.{most-accounts, most-assets, column, within-most, make-refused, refusal};
 use register::fault::MakeFault;
 use register::limits::MOST_ACCOUNTS;
 use register::limits::MOST_ASSETS;
@@ -11,7 +11,7 @@ use register::limits::MOST_ISSUED;
 
 // The sum of one asset's balances, or none where it is above the most.
 fn column_sum(cells: &[u64], accounts: usize, assets: usize, asset: usize) -> Option<u64>
-    requires { ⌜ accounts ≤ 1024 ⌝ ∗ ⌜ assets ≤ 16 ⌝ ∗ ⌜ asset < assets ⌝ ∗ ⌜ length (now cells) ≡ accounts * assets ⌝ }
+    requires { ⌜ accounts ≤ most-accounts ⌝ ∗ ⌜ assets ≤ most-assets ⌝ ∗ ⌜ asset < assets ⌝ ∗ ⌜ length (now cells) ≡ accounts * assets ⌝ }
     ensures { λ r. ⌜ r ≡ within-most (column (now (cells .entry)) accounts assets asset) ⌝ }
 {
     let mut sum = 0u64;

@@ -2,6 +2,7 @@
 ghost use denote.Ref.{now};
 ghost use Prim.Native.Nat.{_*_, _≤_};
 ghost use lib.ListN.{length};
+ghost use Rattle.table_register.specs.Make.{most-accounts, most-assets};
 ghost use Rattle.table_register.specs.Table.{Covered, Bounded};
 use register::limits::MOST_ASSETS;
 
@@ -14,8 +15,8 @@ pub struct TableRegister<'a> {
     accounts: usize,
     assets: usize,
     issues: [u64; MOST_ASSETS],
-    ghost few_accounts: { accounts ≤ 1024 },
-    ghost few_assets: { assets ≤ 16 },
+    ghost few_accounts: { accounts ≤ most-accounts },
+    ghost few_assets: { assets ≤ most-assets },
     ghost size: { accounts * assets ≤ length (now cells) },
     ghost covered: { Covered (now cells) accounts assets issues },
     ghost bounded: { Bounded assets issues },

@@ -6,7 +6,7 @@ ghost use Prim.Native.Nat.{ℕ, _+_, _*_, _<_, _≤_};
 ghost use Rattle.std.specs.declared.option.Option.the-variants.{None};
 ghost use Rattle.register.specs.Rules.{most, raised, credit-refused, transfer-refused, credit-answer, transfer-answer, with-credit, with-move, after-credit, after-transfer};
 ghost use Rattle.table_register.specs.Table.{issued};
-ghost use Rattle.day_book.specs.Entering.{apply, fits, a-credit, a-move, full, with-entry, entries-after, posts};
+ghost use Rattle.day_book.specs.Entering.{apply, most-entries, fits, a-credit, a-move, full, with-entry, entries-after, posts};
 ghost use Rattle.day_book.specs.DayTable.{day-cell, day-lawful, waits, Later-places-stay, Memory-after};
 ghost use Rattle.day_book.specs.DayMeaning.{means};
 use crate::day::DayBook;
@@ -72,9 +72,9 @@ impl DayBook<'_> {
     fn make_room(&mut self)
         ensures meaning { λ _. ⌜ means (now (self .exit)) ≡ means (now (self .entry)) ⌝ }
         ensures later { λ _. ⌜ Later-places-stay (now (self .entry) .accounts * now (self .entry) .assets) (now (now (self .entry) .cells)) (now (now (self .exit) .cells)) ⌝ }
-        ensures bound { λ _. ⌜ now (self .exit) .entries .count < 64 ⌝ }
-        ensures left { λ _. ⌜ (now (self .entry) .entries .count < 64 → (now (now (self .exit) .cells) ≡ now (now (self .entry) .cells)) × (now (self .exit) .entries ≡ now (self .entry) .entries)) ⌝ }
-        ensures posted { λ _. ⌜ (now (self .entry) .entries .count ≡ 64 → now (self .exit) .entries .count ≡ 0) ⌝ }
+        ensures bound { λ _. ⌜ now (self .exit) .entries .count < most-entries ⌝ }
+        ensures left { λ _. ⌜ (now (self .entry) .entries .count < most-entries → (now (now (self .exit) .cells) ≡ now (now (self .entry) .cells)) × (now (self .exit) .entries ≡ now (self .entry) .entries)) ⌝ }
+        ensures posted { λ _. ⌜ (now (self .entry) .entries .count ≡ most-entries → now (self .exit) .entries .count ≡ 0) ⌝ }
         ensures lender { λ _. ⌜ name (now (self .exit) .cells) ≡ name (now (self .entry) .cells) ⌝ }
     {
         if self.entries.count == MOST_ENTRIES {

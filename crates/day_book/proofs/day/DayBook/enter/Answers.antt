@@ -12,10 +12,10 @@ use Rattle.register.specs.Rules.{most, Meaning}
 use Rattle.table_register.specs.Table.{cell, issued, Bounded}
 use Rattle.day_book.specs.declared.entry.Entry.{Entry}
 use Rattle.day_book.specs.declared.entries.Entries.{Entries}
-use Rattle.day_book.specs.Entering.{apply, added, fits, all-fit, pending, full}
+use Rattle.day_book.specs.Entering.{apply, most-entries, added, fits, all-fit, pending, full}
 use Rattle.day_book.specs.DayTable.{day-cell, DayCovered, waits, Memory-after}
 use Rattle.day_book.specs.DayMeaning.{means}
-use Rattle.day_book.proofs.Shifts.{pending-length, posted-tells, under-64}
+use Rattle.day_book.proofs.Shifts.{pending-length, posted-tells, under-most}
 use Rattle.day_book.proofs.Posts.{fit-asset}
 use Rattle.day_book.proofs.Enters.{pending-push, push-day, push-fit, push-issue, push-covered, push-bounded}
 use Rattle.day_book.proofs.day.DayBook.enter.Needs as need
@@ -75,7 +75,7 @@ returns c =
     let few : x .entries .count ≤ length (x .entries .table) = omega (arith, x .long, x .«few_entries») in
     let n : length (waits (x .entries)) ≡ x .entries .count = pending-length (x .entries .table) (x .entries .count) few in
     let emptied : full (waits (x .entries)) ≡ true → waits (y .entries) ≡ [] = λ f. ap (λ k. pending (y .entries .table) 0 k) (c .make-room .ensures .posted (sym n ∙ eqb-true _ _ f)) in
-    let under : full (waits (x .entries)) ≡ false → x .entries .count < 64 = λ f. under-64 (length (waits (x .entries))) (x .entries .count) n (x .«few_entries») f in
+    let under : full (waits (x .entries)) ≡ false → x .entries .count < most-entries = λ f. under-most (length (waits (x .entries))) (x .entries .count) n (x .«few_entries») f in
     record {
       counts = (ap (λ (k : Meaning). k .accounts) same, ap (λ (k : Meaning). k .assets) same);
       balances = λ a s. ap (λ (l : List Entry). day-cell (y .cells .now) (y .accounts) (y .assets) l a s) pend ∙ push-day (y .cells .now) (y .accounts) (y .assets) es e ok a s ∙ ap (λ (k : Meaning). apply e a s (k .balance a s)) same;
