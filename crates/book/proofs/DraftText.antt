@@ -96,8 +96,14 @@ terms-grow l b s d e h =
     subst (λ x. Grown awaits.Terms b s x) is (record {
       keeps = record {
         terms = eq-eqb (outside 2 terms-bounds (terms-values (terms-from (p .0)))) 0 (ap (outside 2 terms-bounds) back ∙ good .1);
-        assets = refl; few-assets = omega arith; rows = refl; few-holders = omega arith; assets-first = λ k. k };
-      reads = ap (λ t. (heading ++ 10 ∷ []) ++ t) (append-nil (terms-line (terms-from (p .0))) ∙ written) })
+        assets = refl;
+        few-assets = omega arith;
+        rows = refl;
+        few-holders = omega arith;
+        assets-first = λ k. k;
+      };
+      reads = ap (λ t. (heading ++ 10 ∷ []) ++ t) (append-nil (terms-line (terms-from (p .0))) ∙ written);
+    })
 
 asset-grows : (l : ℕ) (b : Contents) (s : List ℕ) (d : Draft) → Partial b → asset-next b s ≡ true → asset-read l b s ≡ Ok d → Grown awaits.Rows b s d
 asset-grows l b s d k a h =
@@ -113,13 +119,18 @@ asset-grows l b s d k a h =
     let ok : asset-ok x ≡ true = eq-eqb (outside 2 asset-bounds (asset-values x)) 0 (ap (outside 2 asset-bounds) back ∙ good .1) in
     subst (λ y. Grown awaits.Rows b s y) is (record {
       keeps = record {
-        terms = k .terms; assets = all-push asset-ok (b .assets) x (k .assets) ok;
-        few-assets = omega (arith, length-append (b .assets) (x ∷ [])); rows = k .rows; few-holders = k .few-holders;
-        assets-first = λ _. omega (arith, length-append (b .assets) (x ∷ [])) };
+        terms = k .terms;
+        assets = all-push asset-ok (b .assets) x (k .assets) ok;
+        few-assets = omega (arith, length-append (b .assets) (x ∷ []));
+        rows = k .rows;
+        few-holders = k .few-holders;
+        assets-first = λ _. omega (arith, length-append (b .assets) (x ∷ []));
+      };
       reads =
-        ap (λ t. (heading ++ 10 ∷ []) ++ (terms-line (b .terms) ++ (t ++ joined holder-line (b .holders)))) (joined-push asset-line (b .assets) x)
-        ∙ asset-after (heading ++ 10 ∷ []) (terms-line (b .terms)) (joined asset-line (b .assets)) (asset-line x) (joined holder-line (b .holders)) (ap (joined holder-line) none)
-        ∙ ap (λ t. text b ++ t) written })
+          ap (λ t. (heading ++ 10 ∷ []) ++ (terms-line (b .terms) ++ (t ++ joined holder-line (b .holders)))) (joined-push asset-line (b .assets) x)
+          ∙ asset-after (heading ++ 10 ∷ []) (terms-line (b .terms)) (joined asset-line (b .assets)) (asset-line x) (joined holder-line (b .holders)) (ap (joined holder-line) none)
+          ∙ ap (λ t. text b ++ t) written;
+    })
 
 holder-grows : (l : ℕ) (b : Contents) (s : List ℕ) (d : Draft) → Partial b → overfull b s ≡ false → holder-next b s ≡ true → holder-read l b s ≡ Ok d → Grown awaits.Rows b s d
 holder-grows l b s d k o a h =
@@ -138,21 +149,26 @@ holder-grows l b s d k o a h =
     let ok : holder-ok x ≡ true = eq-eqb (outside 2 holder-bounds (holder-values x)) 0 (ap (outside 2 holder-bounds) back ∙ good .1) in
     subst (λ y. Grown awaits.Rows b s y) is (record {
       keeps = record {
-        terms = k .terms; assets = k .assets; few-assets = k .few-assets;
+        terms = k .terms;
+        assets = k .assets;
+        few-assets = k .few-assets;
         rows = rows-push [] (b .holders) x (k .rows) (and-from (holder-ok x) _ ok (and-from (ascends (b .holders) x) (agrees (b .holders) x) (up .0) (one .0)));
-        few-holders = omega (arith, length-append (b .holders) (x ∷ [])); assets-first = λ _. some };
+        few-holders = omega (arith, length-append (b .holders) (x ∷ []));
+        assets-first = λ _. some;
+      };
       reads =
-        ap (λ t. (heading ++ 10 ∷ []) ++ (terms-line (b .terms) ++ (joined asset-line (b .assets) ++ t))) (joined-push holder-line (b .holders) x)
-        ∙ holder-after (heading ++ 10 ∷ []) (terms-line (b .terms)) (joined asset-line (b .assets)) (joined holder-line (b .holders)) (holder-line x)
-        ∙ ap (λ t. text b ++ t) written })
+          ap (λ t. (heading ++ 10 ∷ []) ++ (terms-line (b .terms) ++ (joined asset-line (b .assets) ++ t))) (joined-push holder-line (b .holders) x)
+          ∙ holder-after (heading ++ 10 ∷ []) (terms-line (b .terms)) (joined asset-line (b .assets)) (joined holder-line (b .holders)) (holder-line x)
+          ∙ ap (λ t. text b ++ t) written;
+    })
 
 row-grows : (l : ℕ) (b : Contents) (s : List ℕ) (d : Draft) → Partial b → overfull b s ≡ false → row-read l b s ≡ Ok d → Grown awaits.Rows b s d
 row-grows l b s d k o h =
     ⊎-elim
     (λ (e : asset-next b s ≡ true). asset-grows l b s d k e (ap (λ v. cond v (asset-read l b s) (cond (holder-next b s) (holder-read l b s) (Err (refuse cause.Form l 1)))) (sym e) ∙ h))
     (λ (e : asset-next b s ≡ false).
-      let p = passed (holder-next b s) (holder-read l b s) (refuse cause.Form l 1) d (ap (λ v. cond v (asset-read l b s) (cond (holder-next b s) (holder-read l b s) (Err (refuse cause.Form l 1)))) (sym e) ∙ h) in
-      holder-grows l b s d k o (p .0) (p .1))
+    let p = passed (holder-next b s) (holder-read l b s) (refuse cause.Form l 1) d (ap (λ v. cond v (asset-read l b s) (cond (holder-next b s) (holder-read l b s) (Err (refuse cause.Form l 1)))) (sym e) ∙ h) in
+    holder-grows l b s d k o (p .0) (p .1))
     (cases-bool (asset-next b s))
 
 -- one line, whatever comes next
@@ -188,4 +204,5 @@ lines-grow l a b (s ∷ t ∷ ts) d k h =
     let r = lines-grow (suc l) (p .0 .awaits) (p .0 .book) (t ∷ ts) d (g .keeps) (p .2) in
     record {
       keeps = r .keeps;
-      reads = r .reads ∙ ap (λ x. x ++ together 10 (t ∷ ts)) (g .reads) ∙ append-assoc (so-far a b) (s ++ 10 ∷ []) (together 10 (t ∷ ts)) ∙ ap (λ x. so-far a b ++ x) (append-assoc s (10 ∷ []) (together 10 (t ∷ ts))) }
+      reads = r .reads ∙ ap (λ x. x ++ together 10 (t ∷ ts)) (g .reads) ∙ append-assoc (so-far a b) (s ++ 10 ∷ []) (together 10 (t ∷ ts)) ∙ ap (λ x. so-far a b ++ x) (append-assoc s (10 ∷ []) (together 10 (t ∷ ts)));
+    }

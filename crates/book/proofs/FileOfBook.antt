@@ -56,6 +56,7 @@ accepted file b h =
     let r = passed (complete (d .book)) (Ok (d .book)) (refuse cause.Holdings 0 0) b (q .2) in
     let is : d .book ≡ b = same-ok (d .book) b (r .1) in
     let g = lines-grow 1 awaits.Heading empty (parts 10 file) d refl (q .1) in
-    let w = whole (d .awaits) (d .book) (r .0) (g .keeps) in
-    ( ap lawful (sym is) ∙ lawful-from (d .book) (w .0) (r .0)
-    , sym (together-parts 10 file) ∙ sym (g .reads) ∙ w .1 ∙ ap text is )
+    let w = whole (d .awaits) (d .book) (r .0) (g .keeps) in (
+      ap lawful (sym is) ∙ lawful-from (d .book) (w .0) (r .0),
+      sym (together-parts 10 file) ∙ sym (g .reads) ∙ w .1 ∙ ap text is,
+    )

@@ -38,12 +38,15 @@ reads-text file b s e = ap reading e ∙ texts-read-back b s .0
 pub accepts-read : (file : List ℕ) (b : Contents) → reading file ≡ Ok b → Accepts-exactly-texts (Ok tt) file b
 accepts-read file b h = record {
   only-texts = λ _. accepted-files-are-texts file b h;
-  every-text = λ c s e. inl (refl, same-ok b c (sym h ∙ reads-text file c s e)) }
+  every-text = λ c s e. inl (refl, same-ok b c (sym h ∙ reads-text file c s e));
+}
 
 pub accepts-refused : {T : Type 0} (holds : T → Contents) (file : List ℕ) (e : ReadFault) (now : Contents) → Gives holds (Err e) (reading file) → Accepts-exactly-texts (Err e) file now
 accepts-refused holds file (Refused q) now g = record {
   only-texts = λ h. let z : _≡_ {A = ℕ} 0 1 = cc in absurd (omega arith);
-  every-text = λ c s e. absurd (never q c (sym g ∙ reads-text file c s e)) }
+  every-text = λ c s e. absurd (never q c (sym g ∙ reads-text file c s e));
+}
 accepts-refused holds file NoMemory now g = record {
   only-texts = λ h. let z : _≡_ {A = ℕ} 0 1 = cc in absurd (omega arith);
-  every-text = λ c s e. inr refl }
+  every-text = λ c s e. inr refl;
+}

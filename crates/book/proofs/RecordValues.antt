@@ -89,5 +89,12 @@ holder-row (a ∷ b ∷ c ∷ d ∷ e ∷ []) g =
     let v = counts 1 999999 b (each-in .1 .0) in
     let w = counts 1 999 c (each-in .1 .1 .0) in
     let x = counts 1 64 d (each-in .1 .1 .1 .0) in
-    record { five = g .0; member = u; number = v; clearing = w; agent = x; position = position-size e (each-in .1 .1 .1 .1 .0);
-      back = ap (λ y. y ∷ pos (natAbs b) ∷ pos (natAbs c) ∷ pos (natAbs d) ∷ e ∷ []) (u .is) ∙ ap (λ y. a ∷ y ∷ pos (natAbs c) ∷ pos (natAbs d) ∷ e ∷ []) (v .is) ∙ ap (λ y. a ∷ b ∷ y ∷ pos (natAbs d) ∷ e ∷ []) (w .is) ∙ ap (λ y. a ∷ b ∷ c ∷ y ∷ e ∷ []) (x .is) }
+    record {
+      five = g .0;
+      member = u;
+      number = v;
+      clearing = w;
+      agent = x;
+      position = position-size e (each-in .1 .1 .1 .1 .0);
+      back = ap (λ y. y ∷ pos (natAbs b) ∷ pos (natAbs c) ∷ pos (natAbs d) ∷ e ∷ []) (u .is) ∙ ap (λ y. a ∷ y ∷ pos (natAbs c) ∷ pos (natAbs d) ∷ e ∷ []) (v .is) ∙ ap (λ y. a ∷ b ∷ y ∷ pos (natAbs d) ∷ e ∷ []) (w .is) ∙ ap (λ y. a ∷ b ∷ c ∷ y ∷ e ∷ []) (x .is);
+    }

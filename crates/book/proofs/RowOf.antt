@@ -63,9 +63,9 @@ row-some (x ∷ xs) m n r h =
     ⊎-elim
     (λ (e : is m n x ≡ true). let k : _≡_ {A = Option ℕ} (Some 1) (Some r) = sym (cond-true (is m n x) (Some 1) (next-row (row-among xs m n)) e) ∙ h in let s : r ≡ 1 = cc in (0, s, omega arith, e))
     (λ (e : is m n x ≡ false).
-      let p = next-some (row-among xs m n) r (sym (cond-false (is m n x) (Some 1) (next-row (row-among xs m n)) e) ∙ h) in
-      let q = row-some xs m n (p .0) (p .1) in
-      (suc (q .0), omega (arith, p .2, q .1), omega (arith, q .2), q .3))
+    let p = next-some (row-among xs m n) r (sym (cond-false (is m n x) (Some 1) (next-row (row-among xs m n)) e) ∙ h) in
+    let q = row-some xs m n (p .0) (p .1) in
+    (suc (q .0), omega (arith, p .2, q .1), omega (arith, q .2), q .3))
     (cases-bool (is m n x))
 
 row-none : (hs : List Holder) (m n : ℕ) → row-among hs m n ≡ None → (i : ℕ) → i < length hs → is m n (getD hs i nobody) ≡ true → ⊥
@@ -93,10 +93,10 @@ only b m n r s k p q =
     ⊎-elim
     (λ (l : r < s). absurd (apart (holder b r) (holder b s) (k .ascending r s (p .within .0) l (q .within .1)) (p .member ∙ sym (q .member)) (p .number ∙ sym (q .number))))
     (λ (l : s ≤ r).
-      ⊎-elim
-      (λ (j : s < r). absurd (apart (holder b s) (holder b r) (k .ascending s r (q .within .0) j (p .within .1)) (q .member ∙ sym (p .member)) (q .number ∙ sym (p .number))))
-      (λ (j : r ≤ s). omega arith)
-      (cases-lt s r))
+    ⊎-elim
+    (λ (j : s < r). absurd (apart (holder b s) (holder b r) (k .ascending s r (q .within .0) j (p .within .1)) (q .member ∙ sym (p .member)) (q .number ∙ sym (p .number))))
+    (λ (j : r ≤ s). omega arith)
+    (cases-lt s r))
     (cases-lt r s)
 
 the-row : (b : Book) (m n r : ℕ) → row-of (contents b) m n ≡ Some r → Has (contents b) m n r

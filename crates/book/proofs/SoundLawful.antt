@@ -123,10 +123,10 @@ one-of P n same up down (suc r) (suc s) i j =
     ⊎-elim
     (λ (l : r < s). up r s l (omega (arith, j .1)))
     (λ (l : s ≤ r).
-      ⊎-elim
-      (λ (k : s < r). down s r k (omega (arith, i .1)))
-      (λ (k : r ≤ s). let e : r ≡ s = omega arith in subst (λ x. P (suc r) (suc x)) e (same r))
-      (cases-lt s r))
+    ⊎-elim
+    (λ (k : s < r). down s r k (omega (arith, i .1)))
+    (λ (k : r ≤ s). let e : r ≡ s = omega arith in subst (λ x. P (suc r) (suc x)) e (same r))
+    (cases-lt s r))
     (cases-lt r s)
 
 all-at : {X : Type 0} (p : X → Bool) (xs : List X) (i : ℕ) (d : X) → all p xs ≡ true → i < length xs → p (getD xs i d) ≡ true
@@ -152,13 +152,14 @@ rows-ordered gs (h ∷ hs) r i j l n k =
     let q = and-parts (ascends gs h) (agrees gs h) (and-parts (holder-ok h) (ascends gs h && agrees gs h) (p .0) .1) in
     ⊎-elim
     (λ (e : j ≡ length gs).
-      let at-j : row-at (gs ++ h ∷ hs) j ≡ h = getD-append-right gs (h ∷ hs) (length gs) j nobody refl k ∙ ap (λ m. getD (h ∷ hs) m nobody) (zero-from j (length gs) e) in
-      let at-i : row-at (gs ++ h ∷ hs) i ≡ row-at gs i = getD-append-left gs (h ∷ hs) nobody i (omega arith) in
-      ( ap (λ x. stands-before x (row-at (gs ++ h ∷ hs) j)) at-i ∙ ap (stands-before (row-at gs i)) at-j ∙ all-at (λ g. stands-before g h) gs i nobody (q .0) (omega arith)
-      , ap (λ x. agree x (row-at (gs ++ h ∷ hs) j)) at-i ∙ ap (agree (row-at gs i)) at-j ∙ all-at (λ g. agree g h) gs i nobody (q .1) (omega arith) ))
+    let at-j : row-at (gs ++ h ∷ hs) j ≡ h = getD-append-right gs (h ∷ hs) (length gs) j nobody refl k ∙ ap (λ m. getD (h ∷ hs) m nobody) (zero-from j (length gs) e) in
+    let at-i : row-at (gs ++ h ∷ hs) i ≡ row-at gs i = getD-append-left gs (h ∷ hs) nobody i (omega arith) in (
+      ap (λ x. stands-before x (row-at (gs ++ h ∷ hs) j)) at-i ∙ ap (stands-before (row-at gs i)) at-j ∙ all-at (λ g. stands-before g h) gs i nobody (q .0) (omega arith),
+      ap (λ x. agree x (row-at (gs ++ h ∷ hs) j)) at-i ∙ ap (agree (row-at gs i)) at-j ∙ all-at (λ g. agree g h) gs i nobody (q .1) (omega arith),
+    ))
     (λ (e : j ≡ length gs → ⊥).
-      subst (λ xs. Ordered xs i j) (append-assoc gs (h ∷ []) hs)
-      (rows-ordered (gs ++ h ∷ []) hs (p .1) i j l (omega (arith, ap length (append-assoc gs (h ∷ []) hs))) (above j (length gs) (length (gs ++ h ∷ [])) k e (length-append gs (h ∷ [])))))
+    subst (λ xs. Ordered xs i j) (append-assoc gs (h ∷ []) hs)
+    (rows-ordered (gs ++ h ∷ []) hs (p .1) i j l (omega (arith, ap length (append-assoc gs (h ∷ []) hs))) (above j (length gs) (length (gs ++ h ∷ [])) k e (length-append gs (h ∷ [])))))
     (cases-eq j (length gs))
 
 rows-ok : (gs hs : List Holder) → rows gs hs ≡ true → all holder-ok hs ≡ true
@@ -219,14 +220,16 @@ sound-from b h =
       one-clearing = λ r s i j. one-of (λ x y. holder b x .member ≡ holder b y .member → holder b x .clearing ≡ holder b y .clearing) (length hs) (λ x e. refl) (λ x y u v e. agree-clearing (row-at hs x) (row-at hs y) (ordered x y u v .1) e) (λ x y u v e. sym (agree-clearing (row-at hs x) (row-at hs y) (ordered x y u v .1) (sym e))) r s i j;
       one-agent = λ r s i j. one-of (λ x y. holder b x .clearing ≡ holder b y .clearing → holder b x .agent ≡ holder b y .agent) (length hs) (λ x e. refl) (λ x y u v e. agree-agent (row-at hs x) (row-at hs y) (ordered x y u v .1) e) (λ x y u v e. sym (agree-agent (row-at hs x) (row-at hs y) (ordered x y u v .1) (sym e))) r s i j;
       balanced = eqb-true _ _ (d .0);
-      few = leb-true _ _ (d .1) }
+      few = leb-true _ _ (d .1);
+    }
 
 pub lawful-from-sound : (b : Contents) → Sound b → lawful b ≡ true
 lawful-from-sound b s =
     let hs = b .holders in
-    let ordered : (i j : ℕ) → i < j → j < length hs → Ordered hs i j = λ i j l n.
-      ( s .ascending (suc i) (suc j) (omega arith) (omega arith) (omega arith)
-      , agree-from (row-at hs i) (row-at hs j) (s .one-clearing (suc i) (suc j) (omega arith, omega arith) (omega arith, omega arith)) (s .one-agent (suc i) (suc j) (omega arith, omega arith) (omega arith, omega arith)) ) in
+    let ordered : (i j : ℕ) → i < j → j < length hs → Ordered hs i j = λ i j l n. (
+      s .ascending (suc i) (suc j) (omega arith) (omega arith) (omega arith),
+      agree-from (row-at hs i) (row-at hs j) (s .one-clearing (suc i) (suc j) (omega arith, omega arith) (omega arith, omega arith)) (s .one-agent (suc i) (suc j) (omega arith, omega arith) (omega arith, omega arith)),
+    ) in
     and-from (headed (b .terms) (b .assets)) _
     (and-from (terms-ok (b .terms)) _ (terms-in (b .terms) (s .multiplier) (s .price))
     (and-from (ltb 0 (length (b .assets))) _ (lt-ltb 0 (length (b .assets)) (omega (arith, s .asset-count .0)))

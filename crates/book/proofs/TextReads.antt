@@ -37,10 +37,11 @@ use Rattle.book.proofs.ReaderTurns.{read-line}
 
 -- no byte of a kind of line is a comma or a line end
 free-kind : (b : ℕ) → b < 60 → Free b (codes "terms") × Free b (codes "asset") × Free b (codes "holder")
-free-kind b h =
-    ( ((λ e. omega arith), ((λ e. omega arith), ((λ e. omega arith), ((λ e. omega arith), ((λ e. omega arith), tt)))))
-    , ((λ e. omega arith), ((λ e. omega arith), ((λ e. omega arith), ((λ e. omega arith), ((λ e. omega arith), tt)))))
-    , ((λ e. omega arith), ((λ e. omega arith), ((λ e. omega arith), ((λ e. omega arith), ((λ e. omega arith), ((λ e. omega arith), tt)))))) )
+free-kind b h = (
+  ((λ e. omega arith), ((λ e. omega arith), ((λ e. omega arith), ((λ e. omega arith), ((λ e. omega arith), tt))))),
+  ((λ e. omega arith), ((λ e. omega arith), ((λ e. omega arith), ((λ e. omega arith), ((λ e. omega arith), tt))))),
+  ((λ e. omega arith), ((λ e. omega arith), ((λ e. omega arith), ((λ e. omega arith), ((λ e. omega arith), ((λ e. omega arith), tt)))))),
+)
 
 free-heading : Free 10 heading
 free-heading = ((λ e. omega arith), ((λ e. omega arith), ((λ e. omega arith), ((λ e. omega arith), ((λ e. omega arith), ((λ e. omega arith), tt))))))
@@ -111,14 +112,15 @@ assets-read l t xs [] rest a n = (l, ap (λ ys. read-on l (drafted awaits.Rows (
 assets-read l t xs (x ∷ more) rest a n =
     let p = and-parts (asset-ok x) (all asset-ok more) a in
     let d : Draft = drafted awaits.Rows (record { terms = t; assets = xs; holders = [] }) in
-    let i = assets-read (suc l) t (xs ++ x ∷ []) more rest (p .1) (omega (arith, length-append xs (x ∷ []))) in
-    ( i .0
-    , ap (λ u. read-on l d (parts 10 u)) (append-assoc (asset-line x) (joined asset-line more) rest)
-      ∙ ap (read-on l d) (line-parts (codes "asset") asset-bounds (asset-values x) (joined asset-line more ++ rest) (free-kind 10 (omega arith) .1) (asset-good x (p .0)))
-      ∙ read-line l d (asset-body x) (joined asset-line more ++ rest)
-      ∙ ap (λ r. onward r (λ e. read-on (suc l) e (parts 10 (joined asset-line more ++ rest)))) (asset-next-reads l t xs x (p .0) (omega arith))
-      ∙ i .1
-      ∙ ap (λ ys. read-on (i .0) (drafted awaits.Rows (record { terms = t; assets = ys; holders = [] })) (parts 10 rest)) (append-assoc xs (x ∷ []) more) )
+    let i = assets-read (suc l) t (xs ++ x ∷ []) more rest (p .1) (omega (arith, length-append xs (x ∷ []))) in (
+      i .0,
+      ap (λ u. read-on l d (parts 10 u)) (append-assoc (asset-line x) (joined asset-line more) rest)
+          ∙ ap (read-on l d) (line-parts (codes "asset") asset-bounds (asset-values x) (joined asset-line more ++ rest) (free-kind 10 (omega arith) .1) (asset-good x (p .0)))
+          ∙ read-line l d (asset-body x) (joined asset-line more ++ rest)
+          ∙ ap (λ r. onward r (λ e. read-on (suc l) e (parts 10 (joined asset-line more ++ rest)))) (asset-next-reads l t xs x (p .0) (omega arith))
+          ∙ i .1
+          ∙ ap (λ ys. read-on (i .0) (drafted awaits.Rows (record { terms = t; assets = ys; holders = [] })) (parts 10 rest)) (append-assoc xs (x ∷ []) more),
+    )
 
 holders-read : (l : ℕ) (t : Terms) (xs : List Asset) (hs more : List Holder) → 0 < length xs → rows hs more ≡ true → length hs + length more ≤ most-holders →
     read-on l (drafted awaits.Rows (record { terms = t; assets = xs; holders = hs })) (parts 10 (joined holder-line more)) ≡ Ok (drafted awaits.Rows (record { terms = t; assets = xs; holders = hs ++ more }))

@@ -38,13 +38,15 @@ small false n e h = let q : _≡_ {A = ℕ} 0 1 = cc in absurd (omega arith)
 pub write-fits : (b : Contents) (out t after : List ℕ) (k : ℕ) → 0 < length (b .holders) → t ≡ text b → Ok k ≡ fitted (length t) (length out) → after ≡ placed t out → (Ok k ≡ write-answer b out) × (after ≡ write-leaves b out)
 write-fits b out t after k some e h a =
     let n = ne-eqb (length (b .holders)) 0 (λ z. omega arith) in
-    let f = fits (ltb (length out) (length (text b))) (length (text b)) k (h ∙ ap (λ x. fitted (length x) (length out)) e) in
-    ( ap Ok (f .1) ∙ sym (cond-false (ltb (length out) (length (text b))) (Err SmallBuffer) (Ok (length (text b))) (f .0)) ∙ sym (cond-false (eqb (length (b .holders)) 0) (Err EmptyBook) (cond (ltb (length out) (length (text b))) (Err SmallBuffer) (Ok (length (text b)))) n)
-    , a ∙ ap (λ x. placed x out) e ∙ sym (cond-false (eqb (length (b .holders)) 0) out (placed (text b) out) n) )
+    let f = fits (ltb (length out) (length (text b))) (length (text b)) k (h ∙ ap (λ x. fitted (length x) (length out)) e) in (
+      ap Ok (f .1) ∙ sym (cond-false (ltb (length out) (length (text b))) (Err SmallBuffer) (Ok (length (text b))) (f .0)) ∙ sym (cond-false (eqb (length (b .holders)) 0) (Err EmptyBook) (cond (ltb (length out) (length (text b))) (Err SmallBuffer) (Ok (length (text b)))) n),
+      a ∙ ap (λ x. placed x out) e ∙ sym (cond-false (eqb (length (b .holders)) 0) out (placed (text b) out) n),
+    )
 
 pub write-small : (b : Contents) (out t after : List ℕ) (x : TooSmall) → 0 < length (b .holders) → t ≡ text b → Err x ≡ fitted (length t) (length out) → after ≡ placed t out → (Err SmallBuffer ≡ write-answer b out) × (after ≡ write-leaves b out)
 write-small b out t after x some e h a =
     let n = ne-eqb (length (b .holders)) 0 (λ z. omega arith) in
-    let f = small (ltb (length out) (length (text b))) (length (text b)) x (h ∙ ap (λ y. fitted (length y) (length out)) e) in
-    ( sym (cond-true (ltb (length out) (length (text b))) (Err SmallBuffer) (Ok (length (text b))) f) ∙ sym (cond-false (eqb (length (b .holders)) 0) (Err EmptyBook) (cond (ltb (length out) (length (text b))) (Err SmallBuffer) (Ok (length (text b)))) n)
-    , a ∙ ap (λ y. placed y out) e ∙ sym (cond-false (eqb (length (b .holders)) 0) out (placed (text b) out) n) )
+    let f = small (ltb (length out) (length (text b))) (length (text b)) x (h ∙ ap (λ y. fitted (length y) (length out)) e) in (
+      sym (cond-true (ltb (length out) (length (text b))) (Err SmallBuffer) (Ok (length (text b))) f) ∙ sym (cond-false (eqb (length (b .holders)) 0) (Err EmptyBook) (cond (ltb (length out) (length (text b))) (Err SmallBuffer) (Ok (length (text b)))) n),
+      a ∙ ap (λ y. placed y out) e ∙ sym (cond-false (eqb (length (b .holders)) 0) out (placed (text b) out) n),
+    )

@@ -49,7 +49,7 @@ next-row (Some row) = Some (row + 1)
 abbrev pub row-among : List Holder → ℕ → ℕ → Option ℕ
 row-among [] member number = None
 row-among (h ∷ hs) member number =
-  cond (eqb (h .member) member && eqb (h .number) number) (Some 1) (next-row (row-among hs member number))
+    cond (eqb (h .member) member && eqb (h .number) number) (Some 1) (next-row (row-among hs member number))
 
 abbrev pub row-of : Contents → ℕ → ℕ → Option ℕ
 row-of b member number = row-among (b .holders) member number

@@ -16,11 +16,12 @@ example = record {
   terms = record { multiplier = 10; price = 1000 };
   assets = record { factor = 1000000; accrued = 0; market = 1010 } ∷ record { factor = 900000; accrued = 50; market = 940 } ∷ [];
   holders =
-    record { member = 1; number = 1; clearing = 1; agent = 1; position = negsuc 4 }
-    ∷ record { member = 1; number = 2; clearing = 1; agent = 1; position = pos 3 }
-    ∷ record { member = 2; number = 1; clearing = 1; agent = 1; position = pos 4 }
-    ∷ record { member = 3; number = 1; clearing = 2; agent = 1; position = negsuc 3 }
-    ∷ record { member = 4; number = 1; clearing = 3; agent = 2; position = pos 2 } ∷ [] }
+      record { member = 1; number = 1; clearing = 1; agent = 1; position = negsuc 4 }
+      ∷ record { member = 1; number = 2; clearing = 1; agent = 1; position = pos 3 }
+      ∷ record { member = 2; number = 1; clearing = 1; agent = 1; position = pos 4 }
+      ∷ record { member = 3; number = 1; clearing = 2; agent = 1; position = negsuc 3 }
+      ∷ record { member = 4; number = 1; clearing = 3; agent = 2; position = pos 2 } ∷ [];
+}
 
 abbrev pub line-end : List ℕ
 line-end = 10 ∷ []
@@ -52,7 +53,8 @@ pub record Worked-cases : Type 0 where
   pub a-million : reading (two-holders (codes "1000000") (codes "1000000")) ≡ Ok (record {
     terms = record { multiplier = 10; price = 1000 };
     assets = record { factor = 1000000; accrued = 0; market = 1010 } ∷ [];
-    holders = record { member = 1; number = 1; clearing = 1; agent = 1; position = pos 1000000 } ∷ record { member = 1; number = 2; clearing = 1; agent = 1; position = negsuc 999999 } ∷ [] })
+    holders = record { member = 1; number = 1; clearing = 1; agent = 1; position = pos 1000000 } ∷ record { member = 1; number = 2; clearing = 1; agent = 1; position = negsuc 999999 } ∷ [];
+  })
   pub one-more : reading (four-holders (codes "1000000") (codes "1000000")) ≡ Err (refuse Holdings 0 0)
   -- a leading zero
   pub leading-zero : reading (two-holders (codes "05") (codes "5")) ≡ Err (refuse Form 4 6)

@@ -7,9 +7,9 @@ use crate::records::Asset;
 use crate::records::Holder;
 use crate::records::Terms;
 
+pub mod questions;
 pub mod reading;
 pub mod writing;
-pub mod questions;
 
 // One expiry's terms, its deliverable assets, numbered from 0, and its holders, in rows from 1: what every book that
 // exists has, or nothing at all, the empty book.

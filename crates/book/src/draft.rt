@@ -29,10 +29,10 @@ use crate::records::Terms;
 use std::alloc::Global;
 use text::cut::step;
 use text::page::MOST_BYTES;
-use text::row::read_row;
 use text::row::Bound;
 use text::row::RowError;
 use text::row::RowFault;
+use text::row::read_row;
 
 // What was read so far.
 #[derive(Drop)]
@@ -44,25 +44,69 @@ pub struct Draft {
 }
 
 const MOST_ASSETS: usize = 4;
+
 const MOST_HOLDERS: usize = 256;
+
 const MOST_BOUGHT: u64 = 1_000_000;
 
 // The range of each field, as the file's format has it.
 const TERMS_BOUNDS: [Bound; 2] = [
-    Bound { low: 1, high: 1_000, zero: true },
-    Bound { low: 100, high: 100_000_000, zero: true },
+    Bound {
+        low: 1,
+        high: 1_000,
+        zero: true,
+    },
+    Bound {
+        low: 100,
+        high: 100_000_000,
+        zero: true,
+    },
 ];
+
 const ASSET_BOUNDS: [Bound; 3] = [
-    Bound { low: 100_000, high: 2_000_000, zero: true },
-    Bound { low: 0, high: 10_000_000, zero: true },
-    Bound { low: 1, high: 210_000_000, zero: true },
+    Bound {
+        low: 100_000,
+        high: 2_000_000,
+        zero: true,
+    },
+    Bound {
+        low: 0,
+        high: 10_000_000,
+        zero: true,
+    },
+    Bound {
+        low: 1,
+        high: 210_000_000,
+        zero: true,
+    },
 ];
+
 const HOLDER_BOUNDS: [Bound; 5] = [
-    Bound { low: 1, high: 999, zero: true },
-    Bound { low: 1, high: 999_999, zero: true },
-    Bound { low: 1, high: 999, zero: true },
-    Bound { low: 1, high: 64, zero: true },
-    Bound { low: -1_000_000, high: 1_000_000, zero: false },
+    Bound {
+        low: 1,
+        high: 999,
+        zero: true,
+    },
+    Bound {
+        low: 1,
+        high: 999_999,
+        zero: true,
+    },
+    Bound {
+        low: 1,
+        high: 999,
+        zero: true,
+    },
+    Bound {
+        low: 1,
+        high: 64,
+        zero: true,
+    },
+    Bound {
+        low: -1_000_000,
+        high: 1_000_000,
+        zero: false,
+    },
 ];
 
 // The refusal of a file, as an error.
@@ -77,8 +121,16 @@ fn on_line(e: RowError, line: usize) -> ReadFault
     ensures value { λ r. ⌜ r ≡ fault-on line e ⌝ }
 {
     match e {
-        RowError::Refused(RowFault::Form(field)) => ReadFault::Refused(Refusal { cause: Cause::Form, line, field }),
-        RowError::Refused(RowFault::Range(field)) => ReadFault::Refused(Refusal { cause: Cause::Range, line, field }),
+        RowError::Refused(RowFault::Form(field)) => ReadFault::Refused(Refusal {
+            cause: Cause::Form,
+            line,
+            field,
+        }),
+        RowError::Refused(RowFault::Range(field)) => ReadFault::Refused(Refusal {
+            cause: Cause::Range,
+            line,
+            field,
+        }),
         RowError::NoMemory => ReadFault::NoMemory,
     }
 }
@@ -87,21 +139,32 @@ fn on_line(e: RowError, line: usize) -> ReadFault
 fn size(values: &[i64], k: usize) -> u64
     ensures value { λ r. ⌜ r ≡ sizeOf (now (values .entry)) k ⌝ }
 {
-    if k < values.len() { values[k].unsigned_abs() } else { 0 }
+    if k < values.len() {
+        values[k].unsigned_abs()
+    } else {
+        0
+    }
 }
 
 fn terms_of(values: &[i64]) -> Terms
     requires { ⌜ sizeOf (now values) 0 ≤ most-multiplier ⌝ ∗ ⌜ sizeOf (now values) 1 ≤ most-price ⌝ }
     ensures value { λ r. ⌜ r ≡ terms-from (now (values .entry)) ⌝ }
 {
-    Terms { multiplier: size(values, 0) as u32, price: size(values, 1) as u32 }
+    Terms {
+        multiplier: size(values, 0) as u32,
+        price: size(values, 1) as u32,
+    }
 }
 
 fn asset_of(values: &[i64]) -> Asset
     requires { ⌜ sizeOf (now values) 0 ≤ most-factor ⌝ ∗ ⌜ sizeOf (now values) 1 ≤ most-accrued ⌝ ∗ ⌜ sizeOf (now values) 2 ≤ most-market ⌝ }
     ensures value { λ r. ⌜ r ≡ asset-from (now (values .entry)) ⌝ }
 {
-    Asset { factor: size(values, 0) as u32, accrued: size(values, 1) as u32, market: size(values, 2) as u32 }
+    Asset {
+        factor: size(values, 0) as u32,
+        accrued: size(values, 1) as u32,
+        market: size(values, 2) as u32,
+    }
 }
 
 // A position, which is narrower than a number of a file may be.
@@ -132,7 +195,11 @@ impl Holder {
         ensures value { λ r. ⌜ r ≡ cond (buysOf (now (self .entry))) (volumeOf (now (self .entry))) 0 ⌝ }
         ensures small { λ r. ⌜ r ≤ 2147483648 ⌝ }
     {
-        if self.position > 0 { u64::from(self.position.unsigned_abs()) } else { 0 }
+        if self.position > 0 {
+            u64::from(self.position.unsigned_abs())
+        } else {
+            0
+        }
     }
 
     // Contracts sold.
@@ -140,21 +207,30 @@ impl Holder {
         ensures value { λ r. ⌜ r ≡ cond (sellsOf (now (self .entry))) (volumeOf (now (self .entry))) 0 ⌝ }
         ensures small { λ r. ⌜ r ≤ 2147483648 ⌝ }
     {
-        if self.position < 0 { u64::from(self.position.unsigned_abs()) } else { 0 }
+        if self.position < 0 {
+            u64::from(self.position.unsigned_abs())
+        } else {
+            0
+        }
     }
 
     // Whether this row stands before `h`: by member, then number.
     fn stands_before(&self, h: &Holder) -> bool
         ensures value { λ r. ⌜ r ≡ stands-before (now (self .entry)) (now (h .entry)) ⌝ }
     {
-        if self.member == h.member { self.number < h.number } else { self.member < h.member }
+        if self.member == h.member {
+            self.number < h.number
+        } else {
+            self.member < h.member
+        }
     }
 
     // Whether both rows have one clearing member for one member, and one payment agent for one clearing member.
     fn agrees_with(&self, h: &Holder) -> bool
         ensures value { λ r. ⌜ r ≡ agree (now (self .entry)) (now (h .entry)) ⌝ }
     {
-        (self.member != h.member || self.clearing == h.clearing) && (self.clearing != h.clearing || self.agent == h.agent)
+        (self.member != h.member || self.clearing == h.clearing)
+            && (self.clearing != h.clearing || self.agent == h.agent)
     }
 }
 
@@ -197,12 +273,15 @@ fn is_of(line: &[u8], kind: &[u8]) -> bool
 }
 
 impl Draft {
-    pub fn new(heap: Global) -> Draft
+    fn new(heap: Global) -> Draft
         ensures nothing_read { λ r. ⌜ draft-of r ≡ start ⌝ }
     {
         Draft {
             awaits: Awaits::Heading,
-            terms: Terms { multiplier: 0, price: 0 },
+            terms: Terms {
+                multiplier: 0,
+                price: 0,
+            },
             assets: Vec::new(heap),
             holders: Vec::new(heap),
         }
@@ -305,7 +384,13 @@ impl Draft {
     }
 
     // One line more: `number` is its number, and `ended` tells whether a line end follows it.
-    pub fn take_line(&mut self, heap: Global, line: &[u8], ended: bool, number: usize) -> Result<(), ReadFault>
+    fn take_line(
+        &mut self,
+        heap: Global,
+        line: &[u8],
+        ended: bool,
+        number: usize,
+    ) -> Result<(), ReadFault>
         ensures by_the_definition { λ r. ⌜ Does r (next number (draft-of (now (self .entry))) (now (line .entry)) ended) (draft-of (now (self .exit))) ⌝ }
     {
         match self.awaits {
@@ -330,7 +415,7 @@ impl Draft {
 }
 
 // Contracts bought and contracts sold.
-pub fn traded(holders: &[Holder]) -> (u64, u64)
+pub(crate) fn traded(holders: &[Holder]) -> (u64, u64)
     requires { ⌜ length (now holders) ≤ most-holders ⌝ }
     ensures bought { λ r. ⌜ r .0 ≡ sumBy (λ h. cond (buysOf h) (volumeOf h) 0) (now (holders .entry)) ⌝ }
     ensures sold { λ r. ⌜ r .1 ≡ sumBy (λ h. cond (sellsOf h) (volumeOf h) 0) (now (holders .entry)) ⌝ }
@@ -374,7 +459,7 @@ fn read_lines(heap: Global, file: &[u8]) -> Result<Draft, ReadFault>
 }
 
 // Reads a whole file, up to what its holders add up to.
-pub fn read_file(heap: Global, file: &[u8]) -> Result<Draft, ReadFault>
+pub(crate) fn read_file(heap: Global, file: &[u8]) -> Result<Draft, ReadFault>
     ensures by_the_definition { λ r. ⌜ Gives (λ d. draft-of d .book) r (reading (now (file .entry))) ⌝ }
 {
     if file.len() > MOST_BYTES {

@@ -6,7 +6,7 @@ use crate::fault::WriteFault;
 
 impl Cause {
     pub fn number(&self) -> u8
-        ensures number_of_the_cause { λ r. ⌜ r ≡ numberOf (now (self .entry)) ⌝ }
+        ensures told_by_its_number { λ r. ⌜ r ≡ numberOf (now (self .entry)) ⌝ }
     {
         match self {
             Cause::Heading => 1,
@@ -22,7 +22,7 @@ impl Cause {
 
 impl WriteFault {
     pub fn number(&self) -> u8
-        ensures number_of_the_cause { λ r. ⌜ r ≡ write-number (now (self .entry)) ⌝ }
+        ensures told_by_its_number { λ r. ⌜ r ≡ write-number (now (self .entry)) ⌝ }
     {
         match self {
             WriteFault::EmptyBook => 6,

@@ -8,7 +8,9 @@ use text::page::MOST_BYTES;
 // The bytes of standard input, but no more than one past what a file may have, which tells that there are too many.
 fn input(rt: &LibcRuntime) -> Result<Vec<u8>, AnyError> {
     let mut bytes = Vec::new(rt.alloc());
-    rt.stdin().take(MOST_BYTES as u64 + 1).read_to_end(&mut bytes)?;
+    rt.stdin()
+        .take(MOST_BYTES as u64 + 1)
+        .read_to_end(&mut bytes)?;
     Ok(bytes)
 }
 

@@ -36,9 +36,10 @@ pub scan-is : (ds : List ℕ) (n : ℕ) → n ≤ limit → scan n ds ≡ cond (
 scan-is [] n h = ap Some (omega arith)
 scan-is (c ∷ cs) n h =
     let m : ℕ = n * 10 + (c - 48) in
-    elim (asciiDigit c) as (λ v. cond v (scan (min limit m) cs) None ≡ cond (v && allDigits cs) (Some (min limit (readOn m cs))) None)
-    [ true ↦ scan-is cs (min limit m) (omega arith) ∙ ap (λ k. cond (allDigits cs) (Some k) None) (readOn-held cs (min limit m) m (omega arith))
-    | false ↦ refl ]
+    elim (asciiDigit c) as (λ v. cond v (scan (min limit m) cs) None ≡ cond (v && allDigits cs) (Some (min limit (readOn m cs))) None) [
+      | true ↦ scan-is cs (min limit m) (omega arith) ∙ ap (λ k. cond (allDigits cs) (Some k) None) (readOn-held cs (min limit m) m (omega arith))
+      | false ↦ refl
+    ]
 
 both : (a b : Bool) (n : ℕ) → b ≡ true → mapped (λ k. min limit k) (cond (a && b) (Some n) None) ≡ cond a (Some (min limit n)) None
 both true b n e = ap (λ v. mapped (λ k. min limit k) (cond v (Some n) None)) e

@@ -94,7 +94,12 @@ fn outside(bounds: &[Bound], values: &[i64]) -> usize
 }
 
 // The numbers of a line, as the public function below says.
-fn numbers_of_row(heap: Global, line: &[u8], kind: &[u8], bounds: &[Bound]) -> Result<Vec<i64>, RowError>
+fn numbers_of_row(
+    heap: Global,
+    line: &[u8],
+    kind: &[u8],
+    bounds: &[Bound],
+) -> Result<Vec<i64>, RowError>
     ensures reads_the_row { λ r. ⌜ Answers r (rowOf (now (kind .entry)) (now (bounds .entry)) (fields (now (line .entry)))) ⌝ }
 {
     let (first, more) = step(line, b',');
@@ -114,7 +119,12 @@ fn numbers_of_row(heap: Global, line: &[u8], kind: &[u8], bounds: &[Bound]) -> R
 
 // The numbers of a line of this kind, one for each bound: the kind is tried first, then the count of fields,
 // then each number's form, then each number's range.
-pub fn read_row(heap: Global, line: &[u8], kind: &[u8], bounds: &[Bound]) -> Result<Vec<i64>, RowError>
+pub fn read_row(
+    heap: Global,
+    line: &[u8],
+    kind: &[u8],
+    bounds: &[Bound],
+) -> Result<Vec<i64>, RowError>
     ensures reads_the_row { λ r. ⌜ Answers r (rowOf (now (kind .entry)) (now (bounds .entry)) (fields (now (line .entry)))) ⌝ }
 {
     numbers_of_row(heap, line, kind, bounds)

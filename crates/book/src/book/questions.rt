@@ -97,26 +97,43 @@ impl Book {
         bought
     }
 
-    // The row, from 1, of the holder with this member and number, if there is one.
-    pub fn row_of(&self, member: u64, number: u64) -> Option<usize>
+    fn row_with(&self, member: u64, number: u64) -> Option<usize>
         ensures value { λ r. ⌜ r ≡ rowOf (contents (now (self .entry))) member number ⌝ }
         ensures the_one_row_or_none { λ r. ⌜ The-one-row (contents (now (self .entry))) member number r ⌝ }
     {
         find(self.holders.as_slice(), member, number)
     }
 
+    // The row, from 1, of the holder with this member and number, if there is one.
+    pub fn row_of(&self, member: u64, number: u64) -> Option<usize>
+        ensures value { λ r. ⌜ r ≡ rowOf (contents (now (self .entry))) member number ⌝ }
+        ensures the_one_row_or_none { λ r. ⌜ The-one-row (contents (now (self .entry))) member number r ⌝ }
+    {
+        self.row_with(member, number)
+    }
+
+    fn price_of(&self, asset: usize) -> u64
+        ensures value { λ r. ⌜ r ≡ invoice (contents (now (self .entry))) asset ⌝ }
+    {
+        let assets = self.assets.as_slice();
+        if asset < assets.len() {
+            assets[asset].invoice_price(self.terms.price)
+        } else {
+            0
+        }
+    }
+
     // The invoice price of an asset in centavos a unit; 0 where the book has no such asset.
     pub fn invoice_price(&self, asset: usize) -> u64
         ensures value { λ r. ⌜ r ≡ invoice (contents (now (self .entry))) asset ⌝ }
     {
-        let assets = self.assets.as_slice();
-        if asset < assets.len() { assets[asset].invoice_price(self.terms.price) } else { 0 }
+        self.price_of(asset)
     }
 
     // The value of so many contracts of an asset, in centavos.
     pub fn value(&self, asset: usize, contracts: u32) -> u128
         ensures value { λ r. ⌜ r ≡ valueOf (contents (now (self .entry))) asset contracts ⌝ }
     {
-        u128::from(contracts) * u128::from(self.terms.multiplier) * u128::from(self.invoice_price(asset))
+        u128::from(contracts) * u128::from(self.terms.multiplier) * u128::from(self.price_of(asset))
     }
 }

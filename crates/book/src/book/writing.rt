@@ -28,7 +28,10 @@ impl Row for Terms as TermsRow {
     ghost row = { terms-line };
 
     fn push_to(&self, page: &mut Page) {
-        page.push_row(b"terms", &[i64::from(self.multiplier), i64::from(self.price)]);
+        page.push_row(
+            b"terms",
+            &[i64::from(self.multiplier), i64::from(self.price)],
+        );
     }
 }
 
@@ -36,7 +39,14 @@ impl Row for Asset as AssetRow {
     ghost row = { asset-line };
 
     fn push_to(&self, page: &mut Page) {
-        page.push_row(b"asset", &[i64::from(self.factor), i64::from(self.accrued), i64::from(self.market)]);
+        page.push_row(
+            b"asset",
+            &[
+                i64::from(self.factor),
+                i64::from(self.accrued),
+                i64::from(self.market),
+            ],
+        );
     }
 }
 

@@ -14,7 +14,10 @@ impl Page {
     pub fn new() -> Page
         ensures empty { λ r. ⌜ written r ≡ [] ⌝ }
     {
-        Page { bytes: [0; MOST_BYTES], len: 0 }
+        Page {
+            bytes: [0; MOST_BYTES],
+            len: 0,
+        }
     }
 
     // One byte more.

@@ -19,18 +19,22 @@ returns-in-Break-take-line c =
     let none : length (c .step .result .1 .now) ≡ 0 = true-eqb _ _ (c .if-is-empty .ensures tt) in
     let cut : Cut (c .loop-rest .rest .now) (c .step .result .0 .now) (c .step .result .1 .now) = record { part = c .step .ensures .part-ends-at-separator; rest = c .step .ensures .rest-begins-there } in
     let p = err-from-errBy (c .from-residual .result) (c .from-residual .ensures .1) in
-    record { by-the-definition =
-    refused-last draft-of (c .from-residual .result) (c .in-Break-take-line .field-0 .0) _ _ _ (p .1 ∙ ap Err (p .2)) (c .in-Break-take-line .ensures tt .by-the-definition)
-    (sym (c .loop-rest .inv .0) ∙ turn-last (c .loop-rest .number) (draft-of (c .loop-rest .draft)) (c .loop-rest .rest .now) (c .step .result .0 .now) (c .step .result .1 .now) cut some none) }
+    record {
+      by-the-definition =
+          refused-last draft-of (c .from-residual .result) (c .in-Break-take-line .field-0 .0) _ _ _ (p .1 ∙ ap Err (p .2)) (c .in-Break-take-line .ensures tt .by-the-definition)
+          (sym (c .loop-rest .inv .0) ∙ turn-last (c .loop-rest .number) (draft-of (c .loop-rest .draft)) (c .loop-rest .rest .now) (c .step .result .0 .now) (c .step .result .1 .now) cut some none);
+    }
 
 pub returns-in-Break-take-line-2 : need.returns-in-Break-take-line-2
 returns-in-Break-take-line-2 c =
     let some : 0 < length (c .step .result .1 .now) = omega (arith, c .if-is-empty .ensures tt, false-eqb) in
     let cut : Cut (c .loop-rest .rest .now) (c .step .result .0 .now) (c .step .result .1 .now) = record { part = c .step .ensures .part-ends-at-separator; rest = c .step .ensures .rest-begins-there } in
     let p = err-from-errBy (c .from-residual-in-Break-take-line-2 .result) (c .from-residual-in-Break-take-line-2 .ensures .1) in
-    record { by-the-definition =
-    refused-line draft-of (c .from-residual-in-Break-take-line-2 .result) (c .in-Break-take-line-2 .field-0 .0) _ _ _ _ (p .1 ∙ ap Err (p .2)) (c .in-Break-take-line-2 .ensures tt .by-the-definition)
-    (sym (c .loop-rest .inv .0) ∙ turn-line (c .loop-rest .number) (draft-of (c .loop-rest .draft)) (c .loop-rest .rest .now) (c .step .result .0 .now) (c .step .result .1 .now) cut some) }
+    record {
+      by-the-definition =
+          refused-line draft-of (c .from-residual-in-Break-take-line-2 .result) (c .in-Break-take-line-2 .field-0 .0) _ _ _ _ (p .1 ∙ ap Err (p .2)) (c .in-Break-take-line-2 .ensures tt .by-the-definition)
+          (sym (c .loop-rest .inv .0) ∙ turn-line (c .loop-rest .number) (draft-of (c .loop-rest .draft)) (c .loop-rest .rest .now) (c .step .result .0 .now) (c .step .result .1 .now) cut some);
+    }
 
 pub loop-rest-less : need.loop-rest-less
 loop-rest-less c =
@@ -42,12 +46,13 @@ loop-rest-again c =
     let some : 0 < length (c .step .result .1 .now) = omega (arith, c .if-is-empty .ensures tt, false-eqb) in
     let cut : Cut (c .loop-rest .rest .now) (c .step .result .0 .now) (c .step .result .1 .now) = record { part = c .step .ensures .part-ends-at-separator; rest = c .step .ensures .rest-begins-there } in
     let more : List ℕ = take (length (c .step .result .1 .now) - 1) (drop 1 (c .step .result .1 .now)) in
-    let one : c .loop-rest .number + 1 ≡ suc (c .loop-rest .number) = omega arith in
-    ( ap (λ l. read-on l (draft-of (c .take-line-in-loop-rest .last .self)) (parts 10 more)) one
-      ∙ sym (ap (λ n. onward n (λ e. read-on (suc (c .loop-rest .number)) e (parts 10 more))) (c .in-Continue-take-line-2 .ensures tt .by-the-definition))
-      ∙ sym (turn-line (c .loop-rest .number) (draft-of (c .loop-rest .draft)) (c .loop-rest .rest .now) (c .step .result .0 .now) (c .step .result .1 .now) cut some)
-      ∙ c .loop-rest .inv .0
-    , omega (arith, c .loop-rest .inv .1, shorter (c .loop-rest .rest .now) (c .step .result .0 .now) (c .step .result .1 .now) cut some) )
+    let one : c .loop-rest .number + 1 ≡ suc (c .loop-rest .number) = omega arith in (
+      ap (λ l. read-on l (draft-of (c .take-line-in-loop-rest .last .self)) (parts 10 more)) one
+          ∙ sym (ap (λ n. onward n (λ e. read-on (suc (c .loop-rest .number)) e (parts 10 more))) (c .in-Continue-take-line-2 .ensures tt .by-the-definition))
+          ∙ sym (turn-line (c .loop-rest .number) (draft-of (c .loop-rest .draft)) (c .loop-rest .rest .now) (c .step .result .0 .now) (c .step .result .1 .now) cut some)
+          ∙ c .loop-rest .inv .0,
+      omega (arith, c .loop-rest .inv .1, shorter (c .loop-rest .rest .now) (c .step .result .0 .now) (c .step .result .1 .now) cut some),
+    )
 
 pub returns : need.returns
 returns c =

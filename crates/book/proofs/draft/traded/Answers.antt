@@ -17,11 +17,12 @@ loop-h-again c =
     let gained : c .gained-bought .result ≡ cond (buys (getD hs i nobody)) (volume (getD hs i nobody)) 0 = c .gained-bought .ensures .value in
     let lost : c .lost-sold .result ≡ cond (sells (getD hs i nobody)) (volume (getD hs i nobody)) 0 = c .lost-sold .ensures .value in
     let b′ : bought-by (drop i hs) ≡ c .gained-bought .result + bought-by (drop (i + 1) hs) = b ∙ sumBy-cons _ (getD hs i nobody) (drop (i + 1) hs) ∙ ap (λ n. n + bought-by (drop (i + 1) hs)) (sym gained) in
-    let s′ : sold-by (drop i hs) ≡ c .lost-sold .result + sold-by (drop (i + 1) hs) = s ∙ sumBy-cons _ (getD hs i nobody) (drop (i + 1) hs) ∙ ap (λ n. n + sold-by (drop (i + 1) hs)) (sym lost) in
-    ( omega (arith, b′, c .loop-h .inv .0)
-    , omega (arith, s′, c .loop-h .inv .1)
-    , omega (arith, c .loop-h .inv .2, c .gained-bought .ensures .small)
-    , omega (arith, c .loop-h .inv .3, c .lost-sold .ensures .small) )
+    let s′ : sold-by (drop i hs) ≡ c .lost-sold .result + sold-by (drop (i + 1) hs) = s ∙ sumBy-cons _ (getD hs i nobody) (drop (i + 1) hs) ∙ ap (λ n. n + sold-by (drop (i + 1) hs)) (sym lost) in (
+      omega (arith, b′, c .loop-h .inv .0),
+      omega (arith, s′, c .loop-h .inv .1),
+      omega (arith, c .loop-h .inv .2, c .gained-bought .ensures .small),
+      omega (arith, c .loop-h .inv .3, c .lost-sold .ensures .small),
+    )
 
 pub returns : need.returns
 returns c =

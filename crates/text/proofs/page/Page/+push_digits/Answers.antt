@@ -15,13 +15,16 @@ returns t c =
     let n = c .args .n in
     let start = written (c .args .self .now) in
     let last : List ℕ = (48 + n % 10) ∷ [] in
-    record { appended = c .push .ensures .appended ∙
-    elim (c .if-n-ge10 .came)
-    [ then-n-ge10 w ↦
-        take-twice most-bytes start (decimal (n / 10)) last (written (c .if-n-ge10 .self)) (ap written (w .self-is) ∙ w .push-digits .ensures .appended)
-        ∙ ap (λ t. take most-bytes (start ++ t)) (sym (decimal-step n (w .if-n-ge10 .taken) (omega (arith, c .fits .n))))
-    | else-n-ge10 w ↦
-        let small : n % 10 ≡ n = omega (arith, w .if-n-ge10 .left) in
-        ap (λ p. take most-bytes (written p ++ last)) (w .self-is)
-        ∙ ap (λ d. take most-bytes (start ++ (48 + d) ∷ [])) small
-        ∙ ap (λ t. take most-bytes (start ++ t)) (sym (decimal-digit n (w .if-n-ge10 .left))) ] }
+    record {
+      appended = c .push .ensures .appended ∙
+          elim (c .if-n-ge10 .came) [
+            | then-n-ge10 w ↦
+                take-twice most-bytes start (decimal (n / 10)) last (written (c .if-n-ge10 .self)) (ap written (w .self-is) ∙ w .push-digits .ensures .appended)
+                ∙ ap (λ t. take most-bytes (start ++ t)) (sym (decimal-step n (w .if-n-ge10 .taken) (omega (arith, c .fits .n))))
+            | else-n-ge10 w ↦
+                let small : n % 10 ≡ n = omega (arith, w .if-n-ge10 .left) in
+                ap (λ p. take most-bytes (written p ++ last)) (w .self-is)
+                ∙ ap (λ d. take most-bytes (start ++ (48 + d) ∷ [])) small
+                ∙ ap (λ t. take most-bytes (start ++ t)) (sym (decimal-digit n (w .if-n-ge10 .left)))
+          ];
+    }

@@ -33,7 +33,7 @@ loop-v-again c =
     let number : written (c .push-number .last .self) ≡ take most-bytes (written (c .push .last .self) ++ signed (getD zs i (pos 0))) = (simp toZ-ofZ at (c .push-number .ensures)) .appended in
     number
     ∙ take-twice most-bytes start (done ++ 44 ∷ []) (signed (getD zs i (pos 0))) (written (c .push .last .self))
-      (c .push .ensures .appended ∙ take-twice most-bytes start done (44 ∷ []) (written (c .loop-v .self)) (c .loop-v .inv))
+    (c .push .ensures .appended ∙ take-twice most-bytes start done (44 ∷ []) (written (c .loop-v .self)) (c .loop-v .inv))
     ∙ ap (λ t. take most-bytes (start ++ t)) (append-assoc done (44 ∷ []) (signed (getD zs i (pos 0))) ∙ joined-more part [] (take i zs) (getD zs i (pos 0)) ∙ ap (joined part) (sym (take-more zs i (pos 0) (c .loop-v-test .taken))))
 
 pub returns : need.returns
@@ -43,8 +43,10 @@ returns c =
     let start = written (c .args .self .now) in
     let after-kind = written (c .push-all .last .self) in
     let numbers : written (c .loop-v .self) ≡ take most-bytes (after-kind ++ joined part zs) = c .loop-v .inv ∙ ap (λ t. take most-bytes (after-kind ++ joined part t)) (take-all (c .loop-v .v-index) zs (c .loop-v-test .left)) in
-    record { line-is-appended =
-    c .push-2 .ensures .appended
-    ∙ take-twice most-bytes after-kind (joined part zs) (10 ∷ []) (written (c .loop-v .self)) numbers
-    ∙ take-twice most-bytes start kind (joined part zs ++ 10 ∷ []) after-kind (c .push-all .ensures .appended)
-    ∙ ap (λ t. take most-bytes (start ++ t)) (line-shape kind zs) }
+    record {
+      line-is-appended =
+          c .push-2 .ensures .appended
+          ∙ take-twice most-bytes after-kind (joined part zs) (10 ∷ []) (written (c .loop-v .self)) numbers
+          ∙ take-twice most-bytes start kind (joined part zs ++ 10 ∷ []) after-kind (c .push-all .ensures .appended)
+          ∙ ap (λ t. take most-bytes (start ++ t)) (line-shape kind zs);
+    }

@@ -23,8 +23,10 @@ returns-then-n-lt0 c =
     let start = written (c .args .self .now) in
     let fits : SFits w64 (c .args .n) = search needs in
     let size : c .unsigned-abs .result ≡ natAbs (c .args .n) = simp toZ-ofZ at (c .unsigned-abs .ensures .value) in
-    record { appended =
-    c .push-digits .ensures .appended
-    ∙ take-twice most-bytes start (45 ∷ []) (decimal (c .unsigned-abs .result)) (written (c .push .last .self)) (c .push .ensures .appended)
-    ∙ ap (λ k. take most-bytes (start ++ 45 ∷ decimal k)) size
-    ∙ ap (λ t. take most-bytes (start ++ t)) (below-0 (c .args .n) (omega (arith, ints))) }
+    record {
+      appended =
+          c .push-digits .ensures .appended
+          ∙ take-twice most-bytes start (45 ∷ []) (decimal (c .unsigned-abs .result)) (written (c .push .last .self)) (c .push .ensures .appended)
+          ∙ ap (λ k. take most-bytes (start ++ 45 ∷ decimal k)) size
+          ∙ ap (λ t. take most-bytes (start ++ t)) (below-0 (c .args .n) (omega (arith, ints)));
+    }

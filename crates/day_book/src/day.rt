@@ -1,0 +1,33 @@
+// The day book, with what holds of every one.
+ghost use denote.Ref.{now};
+ghost use mathlib.Core.Path.{_≡_};
+ghost use mathlib.Core.Bool.{true};
+ghost use Prim.Native.Nat.{_*_, _≤_};
+ghost use lib.ListN.{length};
+ghost use Rattle.table_register.specs.Make.{most-accounts, most-assets};
+ghost use Rattle.table_register.specs.Table.{cell, Bounded};
+ghost use Rattle.day_book.specs.Entering.{all-fit, most-entries};
+ghost use Rattle.day_book.specs.DayTable.{DayCovered, waits};
+use crate::entries::Entries;
+use register::limits::MOST_ASSETS;
+
+pub mod calls;
+pub mod making;
+pub mod posting;
+
+#[derive(Drop)]
+pub struct DayBook<'a> {
+    cells: &'a mut [u64],
+    accounts: usize,
+    assets: usize,
+    issues: [u64; MOST_ASSETS],
+    entries: Entries,
+    ghost few_accounts: { accounts ≤ most-accounts },
+    ghost few_assets: { assets ≤ most-assets },
+    ghost size: { accounts * assets ≤ length (now cells) },
+    ghost few_entries: { entries .count ≤ most-entries },
+    ghost long: { length (entries .table) ≡ most-entries },
+    ghost fit: { all-fit accounts assets (cell (now cells) accounts assets) (waits entries) ≡ true },
+    ghost covered: { DayCovered (now cells) accounts assets (waits entries) issues },
+    ghost bounded: { Bounded assets issues },
+}
