@@ -20,7 +20,8 @@ use Rattle.rules.specs.declared.session.Session.the-variants.{Closed}
 use Rattle.rules.specs.declared.side.Side.the-variants.{Securities, Cash}
 use Rattle.register.specs.Rules.{Meaning}
 use Rattle.pairing.specs.Lines.{total, of-asset, inside, unsettled}
-use Rattle.rules.specs.Tally.{Opening, Tally, session-number, credited, held, all-held, units, money, no-line}
+use Rattle.rules.specs.Numbers.{session-number}
+use Rattle.rules.specs.Tally.{Opening, Tally, credited, held, all-held, units, money, no-line}
 use Rattle.rules.specs.Verdict.{first-failed, house-empty, opening-checks}
 use Rattle.rules.specs.Histories.{Entry, Opens, Seen, Stands, tally-of, register}
 use Rattle.rules.specs.Law.{Finished, Ended}

@@ -30,7 +30,7 @@ the-calls =
   ∷ call.Notice (speaker.Member 1) 1 311723 10 20
   ∷ call.End
   ∷ call.End
-  ∷ call.Line 3
+  ∷ call.SettleLine 3
   ∷ call.Notice (speaker.Clearing 998) 2 425729 1 1
   ∷ call.Notice (speaker.Clearing 998) 1 311723 0 18
   ∷ call.Notice (speaker.Member 1) 1 690579 0 40
@@ -50,7 +50,7 @@ the-calls =
   ∷ call.Take 1 311723 1
   ∷ call.Credit Securities 4 0 570
   ∷ call.Take 1 969440 0
-  ∷ call.Whole
+  ∷ call.SettleWhole
   ∷ call.Credit Cash 0 255 0
   ∷ call.Notice (speaker.Clearing 998) 160 63 0 1
   ∷ call.End

@@ -24,7 +24,7 @@ the-calls =
   ∷ call.End
   ∷ call.Notice (speaker.Clearing 257) 3 1 2 4294967296
   ∷ call.Credit Securities 4294967296 1000 2453
-  ∷ call.Line 1
+  ∷ call.SettleLine 1
   ∷ call.Notice (speaker.Member 2) 2 1 1000 1
   ∷ call.Notice (speaker.Member 3) 3 1 3 2
   ∷ call.Notice (speaker.Member 3) 3 1 1 6
@@ -41,7 +41,7 @@ the-calls =
   ∷ call.End
   ∷ call.Credit Cash 1 0 11938749
   ∷ call.Credit Cash 1 0 23085034
-  ∷ call.Line 1
+  ∷ call.SettleLine 1
   ∷ call.Credit Securities 3 2 12
   ∷ call.Take 3 1 2
   ∷ call.Credit Securities 3 2 1
@@ -52,11 +52,11 @@ the-calls =
   ∷ call.Credit Securities 3 2 10
   ∷ call.Take 3 1 2
   ∷ call.Draw 1
-  ∷ call.Line 1
-  ∷ call.Line 2
-  ∷ call.Line 1
+  ∷ call.SettleLine 1
+  ∷ call.SettleLine 2
+  ∷ call.SettleLine 1
   ∷ call.Credit Cash 1 0 1
-  ∷ call.Line 1
+  ∷ call.SettleLine 1
   ∷ call.Credit Cash 1 0 1000000000
   ∷ call.Close
   ∷ call.Credit Securities 0 3 3403

@@ -28,7 +28,7 @@ the-calls =
   ∷ call.Notice (speaker.Clearing 222) 734 153054 2 1
   ∷ call.Notice (speaker.Clearing 222) 734 153054 0 0
   ∷ call.End
-  ∷ call.Line 0
+  ∷ call.SettleLine 0
   ∷ call.Pair
   ∷ call.Credit Securities 2 0 53749
   ∷ call.Credit Securities 2 0 100615
@@ -40,7 +40,7 @@ the-calls =
   ∷ call.Take 462 1 0
   ∷ call.Take 462 1 0
   ∷ call.Credit Securities 25 1 2708
-  ∷ call.Whole
+  ∷ call.SettleWhole
   ∷ call.Take 734 153054 2
   ∷ call.Credit Securities 1 2 7
   ∷ call.Notice (speaker.Member 257) 734 153054 0 1

@@ -25,27 +25,27 @@ the-calls =
   ∷ call.Notice (speaker.Clearing 999) 999 255876 1 4
   ∷ call.Notice (speaker.Clearing 999) 999 255876 1 1
   ∷ call.End
-  ∷ call.Whole
-  ∷ call.Whole
+  ∷ call.SettleWhole
+  ∷ call.SettleWhole
   ∷ call.Notice (speaker.Member 999) 999 255876 0 0
   ∷ call.Notice (speaker.Clearing 999) 999 255876 0 1
   ∷ call.End
   ∷ call.Credit Cash 64 0 3143
   ∷ call.Pair
-  ∷ call.Line 1
+  ∷ call.SettleLine 1
   ∷ call.Draw 26
   ∷ call.Credit Cash 258 0 0
   ∷ call.End
   ∷ call.Credit Securities 2 1 11
   ∷ call.Take 999 255876 1
   ∷ call.Credit Cash 26 0 24728
-  ∷ call.Line 1
+  ∷ call.SettleLine 1
   ∷ call.Draw 64
   ∷ call.Notice (speaker.Clearing 999) 999 255876 0 5
   ∷ call.Draw 64
   ∷ call.Credit Securities 1 1 999999999999999990
   ∷ call.Notice (speaker.Clearing 998) 998 999999 256 1
-  ∷ call.Line 999999
+  ∷ call.SettleLine 999999
   ∷ call.Notice (speaker.Clearing 1000) 999 255876 1 258
   ∷ call.Close
   ∷ []

@@ -38,7 +38,7 @@ the-calls =
   ∷ call.Take 877 3 0
   ∷ call.Credit Cash 41 0 4263
   ∷ call.Credit Cash 41 1000000000000000000 1692
-  ∷ call.Whole
+  ∷ call.SettleWhole
   ∷ call.Credit Securities 257 0 1172
   ∷ call.Take 10 65 0
   ∷ call.Take 625 999999 258

@@ -49,7 +49,7 @@ the-calls =
   ∷ call.Take 917 351665 1
   ∷ call.Notice (speaker.Clearing 999) 694 2 1 1
   ∷ call.Take 694 2 0
-  ∷ call.Whole
+  ∷ call.SettleWhole
   ∷ call.Credit Cash 54 0 1000000000
   ∷ call.Notice (speaker.Member 694) 694 1 1 1
   ∷ call.Credit Cash 54 0 1000000000000000000

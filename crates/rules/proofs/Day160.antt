@@ -38,7 +38,7 @@ the-calls =
   ∷ call.Notice (speaker.Member 999) 131 14 2 63
   ∷ call.Draw 43
   ∷ call.Credit Cash 43 0 7
-  ∷ call.Line 258
+  ∷ call.SettleLine 258
   ∷ call.Pair
   ∷ call.Credit Securities 3 1 974
   ∷ call.Take 999 999999 1
@@ -58,8 +58,8 @@ the-calls =
   ∷ call.Notice (speaker.Clearing 1) 999999 255 142 1
   ∷ call.Credit Cash 43 0 1000000000000000000
   ∷ call.Close
-  ∷ call.Whole
-  ∷ call.Line 2
+  ∷ call.SettleWhole
+  ∷ call.SettleLine 2
   ∷ []
 
 abbrev as-computed : Report

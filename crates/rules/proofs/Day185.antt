@@ -39,21 +39,21 @@ the-calls =
   ∷ call.Close
   ∷ call.End
   ∷ call.Credit Cash 64 0 609582362
-  ∷ call.Line 1
+  ∷ call.SettleLine 1
   ∷ call.Credit Securities 5 2 583048
   ∷ call.Take 999 999999 2
   ∷ call.Draw 64
-  ∷ call.Line 5
-  ∷ call.Line 3
+  ∷ call.SettleLine 5
+  ∷ call.SettleLine 3
   ∷ call.Credit Cash 64 0 495636004
-  ∷ call.Line 2
+  ∷ call.SettleLine 2
   ∷ call.Draw 64
-  ∷ call.Line 4
+  ∷ call.SettleLine 4
   ∷ call.Notice (speaker.Clearing 1) 1 18 0 241
-  ∷ call.Line 0
+  ∷ call.SettleLine 0
   ∷ call.Notice (speaker.Clearing 111) 998 1 1 1
-  ∷ call.Whole
-  ∷ call.Line 51
+  ∷ call.SettleWhole
+  ∷ call.SettleLine 51
   ∷ call.Take 999 999998 1
   ∷ call.Close
   ∷ call.Close

@@ -39,8 +39,8 @@ the-calls =
   ∷ call.Notice (speaker.Clearing 256) 2 257 1 1000001
   ∷ call.Notice (speaker.Member 616) 616 345399 1 1
   ∷ call.Credit Cash 257 0 7
-  ∷ call.Whole
-  ∷ call.Line 1000000
+  ∷ call.SettleWhole
+  ∷ call.SettleLine 1000000
   ∷ call.End
   ∷ call.Notice (speaker.Clearing 549) 616 345399 2 1
   ∷ call.Pair
@@ -55,8 +55,8 @@ the-calls =
   ∷ call.Credit Securities 1 0 2706
   ∷ call.Close
   ∷ call.Credit Cash 1000001 0 0
-  ∷ call.Line 1
-  ∷ call.Whole
+  ∷ call.SettleLine 1
+  ∷ call.SettleWhole
   ∷ call.Take 609 1 2
   ∷ call.Credit Securities 3 0 1491
   ∷ call.Take 609 2 0

@@ -46,14 +46,14 @@ the-calls =
   ∷ call.Take 997 991352 0
   ∷ call.Credit Securities 3 0 190632592
   ∷ call.Take 998 56859 0
-  ∷ call.Whole
+  ∷ call.SettleWhole
   ∷ call.Credit Securities 1 2 126545139
   ∷ call.Take 997 293072 2
   ∷ call.Credit Securities 1 2 1420
   ∷ call.Take 997 293072 2
   ∷ call.Notice (speaker.Member 999) 10 999 2 1
-  ∷ call.Whole
-  ∷ call.Line 3
+  ∷ call.SettleWhole
+  ∷ call.SettleLine 3
   ∷ call.Notice (speaker.Member 999) 999 410987 2 1
   ∷ call.Credit Securities 4294967296 1 1360
   ∷ []

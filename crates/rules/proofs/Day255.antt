@@ -21,7 +21,7 @@ the-calls =
   call.Credit Cash 55 2 1192
   ∷ call.Credit Securities 3 0 7
   ∷ call.Notice (speaker.Member 258) 3 999999 0 1
-  ∷ call.Line 0
+  ∷ call.SettleLine 0
   ∷ call.Credit Cash 49 0 7
   ∷ call.Notice (speaker.Clearing 849) 3 999999 5 144321
   ∷ call.Notice (speaker.Clearing 849) 3 999999 0 81365
@@ -49,10 +49,10 @@ the-calls =
   ∷ call.Close
   ∷ call.Pair
   ∷ call.Credit Cash 55 0 4512
-  ∷ call.Whole
+  ∷ call.SettleWhole
   ∷ call.Take 65 4294967296 0
-  ∷ call.Line 257
-  ∷ call.Line 1
+  ∷ call.SettleLine 257
+  ∷ call.SettleLine 1
   ∷ call.Credit Securities 4 0 4776
   ∷ []
 

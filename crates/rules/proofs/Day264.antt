@@ -29,8 +29,8 @@ the-calls =
   ∷ call.Draw 17
   ∷ call.Credit Securities 2 0 1000000000
   ∷ call.Credit Securities 1 0 3619
-  ∷ call.Whole
-  ∷ call.Line 297
+  ∷ call.SettleWhole
+  ∷ call.SettleLine 297
   ∷ call.Notice (speaker.Member 584) 584 126685 1 1
   ∷ call.Notice (speaker.Clearing 267) 61 433675 1 171911
   ∷ call.Notice (speaker.Clearing 267) 61 433675 999999 1
@@ -42,7 +42,7 @@ the-calls =
   ∷ call.Pair
   ∷ call.Credit Securities 1 0 1610581
   ∷ call.Take 61 433675 0
-  ∷ call.Whole
+  ∷ call.SettleWhole
   ∷ call.Credit Securities 4 1 1666655
   ∷ call.Take 584 126685 1
   ∷ call.Credit Securities 4 1 1666655
@@ -55,10 +55,10 @@ the-calls =
   ∷ call.Take 515 60917 0
   ∷ call.Credit Cash 58 0 85455430026
   ∷ call.Draw 58
-  ∷ call.Whole
-  ∷ call.Whole
+  ∷ call.SettleWhole
+  ∷ call.SettleWhole
   ∷ call.Credit Securities 0 228 2826
-  ∷ call.Line 179
+  ∷ call.SettleLine 179
   ∷ []
 
 abbrev as-computed : Report

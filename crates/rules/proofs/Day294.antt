@@ -48,7 +48,7 @@ the-calls =
   ∷ call.Draw 1
   ∷ call.Take 838 1 3
   ∷ call.Take 838 2 1
-  ∷ call.Whole
+  ∷ call.SettleWhole
   ∷ []
 
 abbrev as-computed : Report

@@ -24,14 +24,14 @@ the-calls =
   ∷ call.End
   ∷ call.Notice (speaker.Clearing 999) 998 999999 2 1
   ∷ call.End
-  ∷ call.Line 0
+  ∷ call.SettleLine 0
   ∷ call.Pair
   ∷ call.End
   ∷ call.Credit Securities 1 1 75
   ∷ call.Take 998 999999 1
   ∷ call.Credit Cash 0 0 3870
   ∷ call.Credit Cash 64 0 90450
-  ∷ call.Line 1
+  ∷ call.SettleLine 1
   ∷ call.Take 998 999999 2
   ∷ call.Credit Cash 64 0 999999999999909551
   ∷ call.Draw 1024
@@ -44,7 +44,7 @@ the-calls =
   ∷ call.End
   ∷ call.Notice (speaker.Clearing 999) 999 999 2 4
   ∷ call.Notice (speaker.Member 999) 1 256 2 3
-  ∷ call.Whole
+  ∷ call.SettleWhole
   ∷ call.Notice (speaker.Clearing 999) 999 20417 2 1000001
   ∷ call.Notice (speaker.Member 998) 998 999999 2 1
   ∷ call.Credit Securities 2 0 3440

@@ -24,7 +24,7 @@ the-calls =
   ∷ call.Notice (speaker.Clearing 892) 2 417485 1 66965
   ∷ call.Notice (speaker.Clearing 141) 4 226721 0 38348
   ∷ call.End
-  ∷ call.Whole
+  ∷ call.SettleWhole
   ∷ call.Pair
   ∷ call.Credit Securities 4 0 383263
   ∷ call.Credit Securities 4 0 217
@@ -41,10 +41,10 @@ the-calls =
   ∷ call.Credit Securities 257 0 999999999999614781
   ∷ call.End
   ∷ call.Credit Cash 46 0 931719102830
-  ∷ call.Line 3
-  ∷ call.Line 2
+  ∷ call.SettleLine 3
+  ∷ call.SettleLine 2
   ∷ call.Credit Cash 46 0 729666186520
-  ∷ call.Line 1
+  ∷ call.SettleLine 1
   ∷ call.Notice (speaker.Clearing 785) 1 1 1 1
   ∷ call.Notice (speaker.Clearing 1000000000000000000) 1 1 1 63
   ∷ call.Close

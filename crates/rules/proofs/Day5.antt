@@ -19,7 +19,7 @@ the-book = book 30 102 (asset 447999 5515777 1 ∷ asset 859368 0 96 ∷ asset 4
 abbrev the-calls : List Call
 the-calls =
   call.Draw 1
-  ∷ call.Line 5
+  ∷ call.SettleLine 5
   ∷ call.Notice (speaker.Member 65) 798 761611 2 258
   ∷ call.Credit Securities 0 0 4803
   ∷ call.Pair
@@ -38,8 +38,8 @@ the-calls =
   ∷ call.Notice (speaker.Clearing 22) 251 245 2 1000
   ∷ call.Take 798 761611 1
   ∷ call.Draw 999
-  ∷ call.Line 1
-  ∷ call.Line 0
+  ∷ call.SettleLine 1
+  ∷ call.SettleLine 0
   ∷ call.Credit Securities 999999 2 7
   ∷ call.Pair
   ∷ call.Credit Securities 1 0 2105
@@ -48,7 +48,7 @@ the-calls =
   ∷ call.Close
   ∷ call.Credit Cash 1 0 999999999999999751
   ∷ call.Credit Securities 2 2 1527
-  ∷ call.Whole
+  ∷ call.SettleWhole
   ∷ call.Draw 1
   ∷ call.Credit Cash 1 0 1000000000
   ∷ call.Notice (speaker.Member 99) 798 761611 2 1

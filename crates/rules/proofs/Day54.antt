@@ -59,7 +59,7 @@ the-calls =
   ∷ call.Take 1000001 8 3
   ∷ call.Draw 46
   ∷ call.Credit Cash 46 0 1000000000000000000
-  ∷ call.Whole
+  ∷ call.SettleWhole
   ∷ call.Notice (speaker.Clearing 42) 34 999997 0 1
   ∷ []
 

@@ -30,9 +30,9 @@ the-calls =
   ∷ call.Credit Securities 3 0 3
   ∷ call.Take 1 999998 0
   ∷ call.Take 999 3 2
-  ∷ call.Whole
+  ∷ call.SettleWhole
   ∷ call.Notice (speaker.Clearing 4) 1 999998 1 63
-  ∷ call.Whole
+  ∷ call.SettleWhole
   ∷ []
 
 abbrev as-computed : Report

@@ -35,13 +35,13 @@ the-calls =
   ∷ call.Credit Securities 3 0 16385592
   ∷ call.Take 999 1 0
   ∷ call.Notice (speaker.Member 3) 998 999999 0 1
-  ∷ call.Line 2
+  ∷ call.SettleLine 2
   ∷ call.Credit Cash 0 0 3968
   ∷ call.End
-  ∷ call.Line 1
+  ∷ call.SettleLine 1
   ∷ call.Credit Cash 8 0 7798784000
-  ∷ call.Line 2
-  ∷ call.Line 1
+  ∷ call.SettleLine 2
+  ∷ call.SettleLine 1
   ∷ call.Credit Securities 1 0 1000000000000000000
   ∷ call.Close
   ∷ []

@@ -44,7 +44,7 @@ the-calls =
   ∷ call.Notice (speaker.Clearing 765) 3 999999 2 1
   ∷ call.Credit Securities 2 0 40
   ∷ call.Take 2 287651 0
-  ∷ call.Whole
+  ∷ call.SettleWhole
   ∷ call.Notice (speaker.Member 3) 3 999999 2 1
   ∷ call.Take 1 999999 0
   ∷ call.Notice (speaker.Clearing 765) 2 287651 1 63

@@ -28,26 +28,26 @@ the-calls =
   ∷ call.Credit Cash 2 0 1
   ∷ call.Draw 2
   ∷ call.Draw 2
-  ∷ call.Whole
+  ∷ call.SettleWhole
   ∷ call.Credit Securities 1 1 50
   ∷ call.Take 1 1 1
   ∷ call.End
   ∷ call.Credit Securities 4 1 25
   ∷ call.Take 3 1 1
-  ∷ call.Line 1
+  ∷ call.SettleLine 1
   ∷ call.Credit Cash 1 0 9500
-  ∷ call.Line 1
+  ∷ call.SettleLine 1
   ∷ call.Credit Cash 1 0 18999
-  ∷ call.Line 1
+  ∷ call.SettleLine 1
   ∷ call.Credit Cash 1 0 1
-  ∷ call.Line 1
-  ∷ call.Line 3
+  ∷ call.SettleLine 1
+  ∷ call.SettleLine 3
   ∷ call.Credit Securities 4 1 15
   ∷ call.Take 3 1 1
-  ∷ call.Line 4
-  ∷ call.Line 4
-  ∷ call.Line 5
-  ∷ call.Line 0
+  ∷ call.SettleLine 4
+  ∷ call.SettleLine 4
+  ∷ call.SettleLine 5
+  ∷ call.SettleLine 0
   ∷ call.Close
   ∷ call.Close
   ∷ call.Credit Cash 2 0 5

@@ -33,12 +33,12 @@ the-calls =
   ∷ call.Take 1 1 0
   ∷ call.Take 1 1 1
   ∷ call.Take 3 1 0
-  ∷ call.Whole
+  ∷ call.SettleWhole
   ∷ call.Take 3 1 1
-  ∷ call.Whole
+  ∷ call.SettleWhole
   ∷ call.Draw 2
-  ∷ call.Whole
-  ∷ call.Whole
+  ∷ call.SettleWhole
+  ∷ call.SettleWhole
   ∷ call.End
   ∷ call.Credit Securities 2 3 4
   ∷ []

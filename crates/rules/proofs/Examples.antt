@@ -26,7 +26,8 @@ use Rattle.rules.specs.declared.fault.Part.the-variants as part
 use Rattle.rules.specs.declared.fault.OpeningFault.the-variants as opening
 use Rattle.register.specs.Rules.{Meaning}
 use Rattle.rules.specs.Tally.{Opening, empty, claim, no-line}
-use Rattle.rules.specs.Verdict.{opening-number, opening-refused, verdict}
+use Rattle.rules.specs.Numbers.{opening-number}
+use Rattle.rules.specs.Verdict.{opening-refused, verdict}
 use Rattle.rules.proofs.Samples.{asset, buyer, seller, book, a-pair, a-line, zeros, opening, codes, final}
 
 -- one group: all holders of one member, so that stage 1 makes every pair
@@ -96,7 +97,7 @@ take-with-9 = refl
 -- All but line 4 settled at its close: claims 200 for agent 1, -200 for agent 2.
 abbrev but-line-4 : List Call
 but-line-4 = call.End ∷ call.End ∷ call.Pair ∷ call.Credit Securities 1 1 50 ∷ call.Credit Securities 4 1 25 ∷ call.End
-  ∷ call.Take 1 1 1 ∷ call.Take 3 1 1 ∷ call.Credit Cash 1 0 66500 ∷ call.Line 1 ∷ call.Line 2 ∷ call.Line 3 ∷ call.Line 4 ∷ call.Close ∷ []
+  ∷ call.Take 1 1 1 ∷ call.Take 3 1 1 ∷ call.Credit Cash 1 0 66500 ∷ call.SettleLine 1 ∷ call.SettleLine 2 ∷ call.SettleLine 3 ∷ call.SettleLine 4 ∷ call.Close ∷ []
 
 but-line-4-answers : codes printed but-line-4 ≡ (0, 0) ∷ (0, 0) ∷ (0, 4) ∷ (0, 0) ∷ (0, 0) ∷ (0, 0) ∷ (0, 5) ∷ (0, 2) ∷ (0, 0) ∷ (0, 3) ∷ (0, 2) ∷ (0, 2) ∷ (13, 0) ∷ (0, 0) ∷ []
 unfolding all-groups

@@ -17,14 +17,15 @@ use Rattle.std.proofs.shelf.Lists.{getD-past}
 use Rattle.book.specs.declared.records.Holder.{Holder}
 use Rattle.pairing.specs.declared.line.Line.{Line}
 use Rattle.rules.specs.declared.session.Session.{Session}
-use Rattle.rules.specs.declared.session.Session.the-variants.{MembersNotices, ClearingNotices, Pairing, WholeDelivery, PartDelivery, Closed}
+use Rattle.rules.specs.declared.session.Session.the-variants.{MembersNotices, ClearingNotices, Pairing, WholeDelivery, PartialDelivery, Closed}
 use Rattle.rules.specs.declared.call.Call.{Call}
 use Rattle.rules.specs.declared.call.Call.the-variants as call
 use Rattle.rules.specs.declared.answer.Answer.{Answer}
 use Rattle.book.specs.Books.{Contents, Sound, holder, row-named, value}
 use Rattle.order.specs.First.{any}
 use Rattle.pairing.specs.Lines.{outstanding, open-on, inside, debit, buyer-agent}
-use Rattle.rules.specs.Tally.{Opening, Tally, session-number, in-session, held, units, money, takes, line, no-line, settle, ended, accepted, with-lines}
+use Rattle.rules.specs.Numbers.{session-number}
+use Rattle.rules.specs.Tally.{Opening, Tally, in-session, held, units, money, takes, line, no-line, settle, ended, accepted, with-lines}
 use Rattle.rules.specs.Verdict.{Check, decide, checks, answer, verdict}
 use Rattle.rules.specs.Histories.{Entry, Lived, Opens, tally-of}
 use Rattle.rules.proofs.Kept.{Kept, Sane, Makes-lines, Full-lots}
@@ -55,7 +56,7 @@ kept-ended o t MembersNotices d e h k = kept-end-1 o t (ap session-number e) k
 kept-ended o t ClearingNotices d e h k = kept-end-2 o t d (ap session-number e) k
 kept-ended o t Pairing d e h k = k
 kept-ended o t WholeDelivery d e h k = kept-end-4 o t (ap session-number e) k
-kept-ended o t PartDelivery d e h k = k
+kept-ended o t PartialDelivery d e h k = k
 kept-ended o t Closed d e h k = k
 
 in-4-or-5 : (n : ℕ) → (eqb n 4 || eqb n 5) ≡ true → (4 ≤ n) × (n ≤ 5)
@@ -106,16 +107,16 @@ kept-call o t (call.Draw agent) d mk e k =
   let w = and-parts (ltb 0 (debit (o .book) (t .lines) agent)) (eqb (held t agent) 0) (q .1 .0) in
   kept-draw o t agent (eqb-true (session-number (t .session)) 4 (q .0)) (some-agent o t agent d k (ltb-true 0 (debit (o .book) (t .lines) agent) (w .0))) (ltb-true 0 (debit (o .book) (t .lines) agent) (w .0)) (eqb-true (held t agent) 0 (w .1))
     (leb-true (debit (o .book) (t .lines) agent) (money o t agent 0) (q .1 .1 .0)) k
-kept-call o t call.Whole d mk e k =
+kept-call o t call.SettleWhole d mk e k =
   let b : Contents = o .book in
-  let q = ok-checks (checks o t call.Whole) call.Whole (answer o t call.Whole) e in
+  let q = ok-checks (checks o t call.SettleWhole) call.SettleWhole (answer o t call.SettleWhole) e in
   let w = and-parts _ _ (q .1 .1 .0) in
   let taken = not-any (λ l. ltb 0 (open-on l)) (λ l. l .contracts ≤ l .taken) (λ l f. let z = ltb-false 0 (open-on l) f in omega arith) (t .lines) (not-true _ (w .0)) in
   let each = not-any (λ h. ltb (held t (h .agent)) (debit b (t .lines) (h .agent))) (λ h. debit b (t .lines) (h .agent) ≤ held t (h .agent)) (λ h f. ltb-false (held t (h .agent)) (debit b (t .lines) (h .agent)) f) (b .holders) (not-true _ (w .1)) in
   let drawn = all-weaker (Sane b) (λ l. debit b (t .lines) (buyer-agent b l) ≤ held t (buyer-agent b l)) (λ l v. rows-all (λ h. debit b (t .lines) (h .agent) ≤ held t (h .agent)) b each (l .buyer) (v .buyer)) (t .lines) (k .lines) in
   kept-whole o t (eqb-true (session-number (t .session)) 4 (q .0)) taken drawn k
-kept-call o t (call.Line i) d mk e k =
-  let q = ok-checks (checks o t (call.Line i)) (call.Line i) (answer o t (call.Line i)) e in
+kept-call o t (call.SettleLine i) d mk e k =
+  let q = ok-checks (checks o t (call.SettleLine i)) (call.SettleLine i) (answer o t (call.SettleLine i)) e in
   call-line o t i (eqb-true (session-number (t .session)) 5 (q .0)) (ltb-true 0 (inside (line t i)) (q .1 .0)) (leb-true _ _ (q .1 .1 .0)) k
 kept-call o t call.Close d mk e k =
   let q = ok-checks (checks o t call.Close) call.Close (answer o t call.Close) e in

@@ -13,7 +13,8 @@ use Rattle.rules.specs.declared.side.Side.{Side}
 use Rattle.rules.specs.declared.side.Side.the-variants.{Securities, Cash}
 use Rattle.book.specs.Books.{Contents, In, holder, sells, volume}
 use Rattle.pairing.specs.Lines.{Lot, lines-of, total, of-seller, of-buyer, value-bought, value-sold, debit}
-use Rattle.rules.specs.Tally.{Opening, Tally, Drawn, session-number, credited, held, counts, line, closed-on}
+use Rattle.rules.specs.Numbers.{session-number}
+use Rattle.rules.specs.Tally.{Opening, Tally, Drawn, credited, held, counts, line, closed-on}
 
 -- A line as pairing makes it: rows and asset are the book's, it has contracts, and none is taken.
 pub record Made-line (b : Contents) (l : Line) : Type 0 where

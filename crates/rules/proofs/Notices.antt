@@ -16,12 +16,13 @@ use Rattle.std.proofs.shelf.Tests.{ne-eqb, eq-eqb, cases-eq}
 use Rattle.book.specs.declared.records.Holder.{Holder}
 use Rattle.pairing.specs.declared.line.Line.{Line}
 use Rattle.rules.specs.declared.session.Session.{Session}
-use Rattle.rules.specs.declared.session.Session.the-variants.{MembersNotices, ClearingNotices, Pairing, WholeDelivery, PartDelivery, Closed}
+use Rattle.rules.specs.declared.session.Session.the-variants.{MembersNotices, ClearingNotices, Pairing, WholeDelivery, PartialDelivery, Closed}
 use Rattle.rules.specs.declared.side.Side.the-variants.{Securities, Cash}
 use Rattle.book.specs.Books.{Contents, Sound, holder, nobody, sells, volume}
 use Rattle.pairing.specs.Orders.{first-deliverable}
 use Rattle.pairing.specs.Lines.{Lot, unnotified, added-from, added, lines-of, of-seller, buyer-agent, seller-agent}
-use Rattle.rules.specs.Tally.{Opening, Tally, session-number, credited, held, with-lots, with-lines}
+use Rattle.rules.specs.Numbers.{session-number}
+use Rattle.rules.specs.Tally.{Opening, Tally, credited, held, with-lots, with-lines}
 use Rattle.rules.proofs.Totals.{sum-zero}
 use Rattle.pairing.proofs.FirstDeliverable.{first-deliverable-in}
 use Rattle.rules.proofs.Settles.{unspent}
@@ -118,7 +119,7 @@ kept-end-2 o t sound e s = record
   ; draws-before = λ h. s .draws-before (omega arith); draws-after = λ h. absurd (omega arith); drawn = s .drawn; draws = s .draws; some-drawn = s .some-drawn; once = s .once
   ; house = s .house; units-cover = s .units-cover; money-covers = s .money-covers }
 
-pub kept-end-4 : (o : Opening) (t : Tally) → session-number (t .session) ≡ 4 → Kept o t → Kept o (with-lines t PartDelivery (t .lines) [])
+pub kept-end-4 : (o : Opening) (t : Tally) → session-number (t .session) ≡ 4 → Kept o t → Kept o (with-lines t PartialDelivery (t .lines) [])
 kept-end-4 o t e s = record
   { lots-within = s .lots-within; lots-full = λ h. s .lots-full (omega arith)
   ; lots-assets = s .lots-assets

@@ -98,12 +98,12 @@ held-all o t s k =
 joined : (held all debits bought sold credits : ℕ) → held ≡ all → held ≡ debits → bought ≡ sold → debits + sold ≡ credits + bought → all ≡ credits
 joined held all debits bought sold credits p r n m = omega arith
 
-pub whole-pays : (o : Opening) (t : Tally) → Sound (o .book) → Kept o t → isOk (verdict o t call.Whole) ≡ true
+pub whole-pays : (o : Opening) (t : Tally) → Sound (o .book) → Kept o t → isOk (verdict o t call.SettleWhole) ≡ true
   → all-held t ≡ over-agents (λ k. value-sold (o .book) (λ l. l .contracts) (t .lines) k - value-bought (o .book) (λ l. l .contracts) (t .lines) k) 64
 whole-pays o t s k e =
   let b : Contents = o .book in
   let ls : List Line = t .lines in
-  let q = ok-checks (checks o t call.Whole) call.Whole (answer o t call.Whole) e in
+  let q = ok-checks (checks o t call.SettleWhole) call.SettleWhole (answer o t call.SettleWhole) e in
   let w = and-parts (all-taken t) (all-drawn o t) (q .1 .1 .0) in
   let each = not-any (λ h. ltb (held t (h .agent)) (debit b ls (h .agent))) (λ h. debit b ls (h .agent) ≤ held t (h .agent)) (λ h f. ltb-false (held t (h .agent)) (debit b ls (h .agent)) f) (b .holders) (not-true (any (λ h. ltb (held t (h .agent)) (debit b ls (h .agent))) (b .holders)) (w .1)) in
   let drawn : (x : ℕ) → held t x ≡ debit b ls x = λ x.

@@ -21,8 +21,8 @@ use Rattle.register.specs.Rules.{Meaning}
 use Rattle.book.specs.Books.{Contents}
 use Rattle.rules.specs.declared.side.Side.the-variants.{Securities, Cash}
 use Rattle.pairing.specs.Lines.{lot, net}
-use Rattle.rules.specs.Tally.{Opening, Tally, empty, no-line, session-number, balance, held, claim}
-use Rattle.rules.specs.Verdict.{number}
+use Rattle.rules.specs.Numbers.{session-number, number}
+use Rattle.rules.specs.Tally.{Opening, Tally, empty, no-line, balance, held, claim}
 use Rattle.rules.specs.Histories.{day}
 use Rattle.pairing.specs.Laws.{position-on, different-pairs}
 use Rattle.rules.specs.Law.{sum-agents}

@@ -19,7 +19,8 @@ use Rattle.rules.specs.declared.side.Side.the-variants.{Securities, Cash}
 use Rattle.rules.specs.declared.session.Session.the-variants.{Closed}
 use Rattle.book.specs.Books.{Contents, Sound, In, value, holder}
 use Rattle.pairing.specs.Lines.{total, of-seller, of-buyer, open-on, inside, unsettled, buyer-agent, seller-agent, value-bought, value-sold, debit}
-use Rattle.rules.specs.Tally.{Opening, Tally, Drawn, session-number, credited, held, with-lines, with-closed, settle, give-back, no-line, units, money}
+use Rattle.rules.specs.Numbers.{session-number}
+use Rattle.rules.specs.Tally.{Opening, Tally, Drawn, credited, held, with-lines, with-closed, settle, give-back, no-line, units, money}
 use Rattle.rules.proofs.Totals.{sum-zero, sum-same, map-kept, map-up, map-down, map-same, total-or, value-add, value-zero, map-map, set-map}
 use Rattle.rules.proofs.Kept.{Kept, Sane, anew, Untouched, None-in, gave, got, spent, earned}
 use Rattle.rules.proofs.Balances.{units-at, money-at}

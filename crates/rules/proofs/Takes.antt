@@ -16,7 +16,8 @@ use Rattle.pairing.specs.declared.line.Line.{Line}
 use Rattle.rules.specs.declared.side.Side.the-variants.{Securities, Cash}
 use Rattle.book.specs.Books.{Contents, value}
 use Rattle.pairing.specs.Lines.{total, of-seller, of-buyer, open-on, buyer-agent, seller-agent, value-bought, value-sold, debit}
-use Rattle.rules.specs.Tally.{Opening, Tally, Drawn, session-number, credited, held, with-lines, take-on, loaded, here, units, money}
+use Rattle.rules.specs.Numbers.{session-number}
+use Rattle.rules.specs.Tally.{Opening, Tally, Drawn, credited, held, with-lines, take-on, loaded, here, units, money}
 use Rattle.rules.proofs.Totals.{take-kept, take-adds, take-all, take-map, sum-le}
 use Rattle.rules.proofs.Kept.{Kept, Sane, anew, Untouched, gave, got, spent, earned}
 use Rattle.rules.proofs.Balances.{units-at, money-at}

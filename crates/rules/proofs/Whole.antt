@@ -5,7 +5,8 @@ use Prim.Native.Nat.{ℕ, _≤_}
 use native.Mathlib.Omega.{arith}
 use Rattle.book.specs.Books.{Contents, Sound}
 use Rattle.pairing.specs.Lines.{lines-of}
-use Rattle.rules.specs.Tally.{Opening, Tally, session-number}
+use Rattle.rules.specs.Numbers.{session-number}
+use Rattle.rules.specs.Tally.{Opening, Tally}
 use Rattle.rules.specs.Histories.{Entry, tally-of, Seen, Stands}
 use Rattle.rules.specs.Law.{Law, Law-holds}
 use Rattle.rules.proofs.Kept.{Kept, Makes-lines}

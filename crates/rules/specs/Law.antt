@@ -21,7 +21,8 @@ use Rattle.register.specs.declared.fault.RegisterFault.the-variants.{Short}
 use Rattle.rules.specs.declared.fault.Cause.the-variants.{Register}
 use Rattle.rules.specs.declared.fault.Fault.{Fault}
 use Rattle.pairing.specs.Laws.{Well-paired}
-use Rattle.rules.specs.Tally.{Opening, Tally, session-number, told, claim, line, closed-on}
+use Rattle.rules.specs.Numbers.{session-number}
+use Rattle.rules.specs.Tally.{Opening, Tally, told, claim, line, closed-on}
 use Rattle.rules.specs.Verdict.{due, covers}
 use Rattle.rules.specs.Histories.{Entry, tally-of, Seen, register, Same, over, Stands}
 
@@ -35,8 +36,8 @@ paying-side call.Pair = None
 paying-side (call.Credit side account asset amount) = None
 paying-side (call.Take member number asset) = Some Securities
 paying-side (call.Draw agent) = Some Cash
-paying-side call.Whole = None
-paying-side (call.Line i) = Some Cash
+paying-side call.SettleWhole = None
+paying-side (call.SettleLine i) = Some Cash
 paying-side call.Close = None
 
 abbrev pub Accepted-or-short : Opening → Tally → Call → Result Answer Fault → Option Side → Type 0

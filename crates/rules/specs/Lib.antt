@@ -1,3 +1,4 @@
+pub mod Numbers
 pub mod Tally
 pub mod Verdict
 pub mod Histories

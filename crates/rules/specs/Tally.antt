@@ -9,13 +9,14 @@ use Rattle.std.specs.shelf.Lists.{sumBy}
 use Rattle.pairing.specs.declared.line.Line.{Line}
 use Rattle.pairing.specs.declared.stage.Stage.the-variants.{Member}
 use Rattle.rules.specs.declared.session.Session.{Session}
-use Rattle.rules.specs.declared.session.Session.the-variants.{MembersNotices, ClearingNotices, Pairing, WholeDelivery, PartDelivery, Closed}
+use Rattle.rules.specs.declared.session.Session.the-variants.{MembersNotices, ClearingNotices, Pairing, WholeDelivery, PartialDelivery, Closed}
 use Rattle.rules.specs.declared.side.Side.{Side}
 use Rattle.rules.specs.declared.side.Side.the-variants.{Securities, Cash}
 use Rattle.rules.specs.declared.call.Call.{Call}
 use Rattle.rules.specs.declared.call.Call.the-variants as call
 use Rattle.register.specs.Rules.{Meaning}
 use Rattle.book.specs.Books.{Contents, row-named}
+use Rattle.rules.specs.Numbers.{session-number}
 use Rattle.pairing.specs.Lines.{Lot, added, total, sumℤ, of-seller, of-buyer, of-asset, lines-of, open-on, inside, unsettled, outstanding, value-bought, value-sold, debit, claim-on}
 
 -- What an expiry opens with: a book, the places for lines, and two registers.
@@ -53,14 +54,6 @@ abbrev pub empty : Tally
 empty = record { session = MembersNotices; lots = []; lines = []; credits = []; draws = []; closed = [] }
 
 -- ---- what it tells
-
-abbrev pub session-number : Session → ℕ
-session-number MembersNotices = 1
-session-number ClearingNotices = 2
-session-number Pairing = 3
-session-number WholeDelivery = 4
-session-number PartDelivery = 5
-session-number Closed = 6
 
 abbrev pub in-session : ℕ → Tally → Bool
 in-session n t = eqb (session-number (t .session)) n
@@ -177,8 +170,8 @@ abbrev pub ended : Contents → Tally → Session → Tally
 ended b t MembersNotices = with-lots t ClearingNotices (t .lots)
 ended b t ClearingNotices = with-lots t Pairing (added b (t .lots) ++ t .lots)
 ended b t Pairing = t
-ended b t WholeDelivery = with-lines t PartDelivery (t .lines) []
-ended b t PartDelivery = t
+ended b t WholeDelivery = with-lines t PartialDelivery (t .lines) []
+ended b t PartialDelivery = t
 ended b t Closed = t
 
 -- One accepted call.
@@ -192,8 +185,8 @@ accepted o t (call.Take member number asset) =
   let row = row-named (o .book) member number in
   with-lines t (t .session) (take-on row asset (takes o t row asset) (t .lines)) (t .draws)
 accepted o t (call.Draw agent) = with-lines t (t .session) (t .lines) (record { agent = agent; amount = debit (o .book) (t .lines) agent } ∷ t .draws)
-accepted o t call.Whole = with-lines t Closed (map settle (t .lines)) []
-accepted o t (call.Line i) = with-lines t (t .session) (set (t .lines) (i - 1) (settle (line t i))) (t .draws)
+accepted o t call.SettleWhole = with-lines t Closed (map settle (t .lines)) []
+accepted o t (call.SettleLine i) = with-lines t (t .session) (set (t .lines) (i - 1) (settle (line t i))) (t .draws)
 accepted o t call.Close = with-closed t (map give-back (t .lines))
 
 -- The tally after calls, the newest first, each with whether it was accepted. A refused call leaves it.

@@ -34,28 +34,6 @@ use Rattle.order.specs.First.{any}
 use Rattle.pairing.specs.Lines.{unnotified, lines-of, open-on, inside, outstanding, buyer-agent, debit}
 use Rattle.rules.specs.Tally.{Opening, Tally, in-session, held, units, money, told, takes, line}
 
--- ---- numbers of refusals
-
-abbrev pub register-number : RegisterFault → ℕ
-register-number UnknownAccount = 20
-register-number UnknownAsset = 21
-register-number SameAccount = 22
-register-number ZeroAmount = 23
-register-number Short = 24
-register-number OverIssue = 25
-
-abbrev pub number : Cause → ℕ
-number WrongSession = 8
-number NotItsSeller = 9
-number NoSuchSeller = 10
-number NoSuchAsset = 11
-number BadContracts = 12
-number NothingDue = 13
-number NotAllIn = 14
-number (TooSmall what) = 15
-number HouseCredit = 17
-number (Register side e) = register-number e
-
 -- ---- the checks
 
 -- The sessions in which a call is made.
@@ -66,8 +44,8 @@ in-its-session t call.Pair = in-session 3 t
 in-its-session t (call.Credit side account asset amount) = true
 in-its-session t (call.Take member number asset) = in-session 4 t || in-session 5 t
 in-its-session t (call.Draw agent) = in-session 4 t
-in-its-session t call.Whole = in-session 4 t
-in-its-session t (call.Line i) = in-session 5 t
+in-its-session t call.SettleWhole = in-session 4 t
+in-its-session t (call.SettleLine i) = in-session 5 t
 in-its-session t call.Close = in-session 5 t
 
 -- Something such is due: contracts outstanding, a debit not drawn yet, contracts in. An absent holder and a missing
@@ -79,8 +57,8 @@ something-due o t call.Pair = true
 something-due o t (call.Credit side account asset amount) = true
 something-due o t (call.Take member number asset) = ltb 0 (outstanding (t .lines) (row-named (o .book) member number) asset)
 something-due o t (call.Draw agent) = ltb 0 (debit (o .book) (t .lines) agent) && eqb (held t agent) 0
-something-due o t call.Whole = true
-something-due o t (call.Line i) = ltb 0 (inside (line t i))
+something-due o t call.SettleWhole = true
+something-due o t (call.SettleLine i) = ltb 0 (inside (line t i))
 something-due o t call.Close = true
 
 -- A call that these two let pass is due.
@@ -97,8 +75,8 @@ covers o t (call.Take member number asset) =
   let row = row-named (o .book) member number in
   leb (o .book .terms .multiplier * cond (in-session 5 t) 1 (outstanding (t .lines) row asset)) (units o t row asset)
 covers o t (call.Draw agent) = leb (debit (o .book) (t .lines) agent) (money o t agent 0)
-covers o t call.Whole = true
-covers o t (call.Line i) = leb (value (o .book) (line t i .asset) (inside (line t i))) (money o t (buyer-agent (o .book) (line t i)) 0)
+covers o t call.SettleWhole = true
+covers o t (call.SettleLine i) = leb (value (o .book) (line t i .asset) (inside (line t i))) (money o t (buyer-agent (o .book) (line t i)) 0)
 covers o t call.Close = true
 
 -- The speaker is the seller's clearing member or, in session 1 alone, its member.
@@ -135,8 +113,8 @@ further o t call.Pair = []
 further o t (call.Credit side account asset amount) = (ltb 0 account, HouseCredit) ∷ by-register side (credit-refused (told o t side) account asset amount)
 further o t (call.Take member number asset) = (covers o t (call.Take member number asset), Register Securities Short) ∷ []
 further o t (call.Draw agent) = (covers o t (call.Draw agent), Register Cash Short) ∷ []
-further o t call.Whole = (all-taken t && all-drawn o t, NotAllIn) ∷ []
-further o t (call.Line i) = (covers o t (call.Line i), Register Cash Short) ∷ []
+further o t call.SettleWhole = (all-taken t && all-drawn o t, NotAllIn) ∷ []
+further o t (call.SettleLine i) = (covers o t (call.SettleLine i), Register Cash Short) ∷ []
 further o t call.Close = []
 
 -- The checks of a call, in their order.
@@ -153,8 +131,8 @@ answer o t call.Pair = Lines (length (lines-of (o .book) (t .lots)))
 answer o t (call.Credit side account asset amount) = Done
 answer o t (call.Take member number asset) = Contracts (takes o t (row-named (o .book) member number) asset)
 answer o t (call.Draw agent) = Done
-answer o t call.Whole = Done
-answer o t (call.Line i) = Contracts (inside (line t i))
+answer o t call.SettleWhole = Done
+answer o t (call.SettleLine i) = Contracts (inside (line t i))
 answer o t call.Close = Done
 
 -- The first check that fails decides. A refusal gives the cause and the call, with all of its names.
@@ -167,11 +145,6 @@ abbrev pub verdict : Opening → Tally → Call → Result Answer Fault
 verdict o t c = let a = answer o t c in decide (checks o t c) c a
 
 -- ---- opening, and what is too small
-
-abbrev pub opening-number : OpeningFault → ℕ
-opening-number opening.EmptyBook = 6
-opening-number (opening.TooSmall what) = 15
-opening-number (opening.HouseHolds side) = 16
 
 abbrev pub first-failed : {E : Type 0} → List (Bool × E) → Option E
 first-failed [] = None
