@@ -26,9 +26,9 @@ use Rattle.rules.specs.Verdict.{first-failed, house-empty, opening-checks}
 use Rattle.rules.specs.Histories.{Entry, Opens, Seen, Stands, tally-of, register}
 use Rattle.rules.specs.Law.{Finished, Ended}
 use Rattle.rules.proofs.Totals.{sum-zero}
-use Rattle.rules.proofs.Kept.{Kept, Sane, None-in, Makes-lines, gave, got}
+use Rattle.rules.proofs.Kept.{Kept, Sane, None-in, gave, got}
 use Rattle.rules.proofs.Balances.{row-0, agent-0}
-use Rattle.rules.proofs.Invariant.{kept}
+use Rattle.rules.proofs.KeptAlways.{kept}
 
 -- where no check failed, each passed
 passed : {E : Type 0} (cs : List (Bool × E)) → first-failed cs ≡ None → All (λ (x : Bool × E). x .0 ≡ true) cs
@@ -88,9 +88,9 @@ told-end o t p s e =
   , (λ a lt. house-units o t a p s lt ∙ (ap (λ x. m * x) (sum-zero (λ l. cond (of-asset a l) (inside l) 0) (t .lines) (all-weaker None-in (λ l. cond (of-asset a l) (inside l) 0 ≡ 0) (not-in a) (t .lines) none)) ∙ mul-zero m))
   , (λ i. record { settled-or-closed = s .finished e i; none-in = none-at (t .lines) none i }) )
 
-pub ended-holds : (o : Opening) (h : List Entry) (n : Seen) → Makes-lines (o .book) → Stands o h n → tally-of o h .session ≡ Closed → Ended o h n
-ended-holds o h n mk st e =
-  let q = told-end o (tally-of o h) (st .opens) (kept o h (st .opens) mk (st .lived)) (ap session-number e) in
+pub ended-holds : (o : Opening) (h : List Entry) (n : Seen) → Stands o h n → tally-of o h .session ≡ Closed → Ended o h n
+ended-holds o h n st e =
+  let q = told-end o (tally-of o h) (st .opens) (kept o h (st .opens) (st .lived)) (ap session-number e) in
   record
   { no-cash = st .registers Cash .balance 0 0 ∙ q .0
   ; no-units = λ a lt. st .registers Securities .balance 0 a ∙ q .1 a lt

@@ -1,5 +1,5 @@
 -- The law: what holds of an expiry, its lines and its registers after any history.
-use Prim.Native.Nat.{ℕ, zero, suc, _+_, _-_, _≤_, _<_}
+use Prim.Native.Nat.{ℕ, zero, suc, _+_, _*_, _≤_, _<_}
 use mathlib.Core.Path.{_≡_}
 use mathlib.Core.Bool.{Bool, true, false, _&&_, cond}
 use mathlib.Core.List.{List, [], _∷_}
@@ -20,11 +20,23 @@ use Rattle.rules.specs.declared.answer.Answer.{Answer}
 use Rattle.register.specs.declared.fault.RegisterFault.the-variants.{Short}
 use Rattle.rules.specs.declared.fault.Cause.the-variants.{Register}
 use Rattle.rules.specs.declared.fault.Fault.{Fault}
+use Rattle.book.specs.Books.{Contents, holder, sells}
+use Rattle.pairing.specs.Lines.{lot, total, of-seller, net}
 use Rattle.pairing.specs.Laws.{Well-paired}
 use Rattle.rules.specs.Numbers.{session-number}
 use Rattle.rules.specs.Tally.{Opening, Tally, told, claim, line, closed-on}
-use Rattle.rules.specs.Verdict.{due, covers}
+use Rattle.rules.specs.Verdict.{lines-a-holder, due, covers}
 use Rattle.rules.specs.Histories.{Entry, tally-of, Seen, register, Same, over, Stands}
+
+-- ---- from pairing on
+
+pub record Paired (b : Contents) (t : Tally) : Type 0 where
+  -- The lines are a pairing of the book, name fewer pairs than it has holders, and keep most contracts near.
+  pub well : Well-paired b (t .lines)
+  -- Each seller's lines of an asset add up to its lot.
+  pub lots : (row asset : ℕ) → sells (holder b row) ≡ true → asset < length (b .assets)
+    → total (of-seller row asset) (λ l. l .contracts) (t .lines) ≡ lot (t .lots) row asset
+  pub few : length (t .lines) ≤ lines-a-holder * length (b .holders)
 
 -- ---- coverage
 
@@ -62,6 +74,10 @@ pub record Ended (o : Opening) (h : List Entry) (n : Seen) : Type 0 where
   pub no-units : (a : ℕ) → a < length (o .book .assets) → n .securities .balance 0 a ≡ 0
   pub lines : (i : ℕ) → Finished (tally-of o h) i
 
+-- Payment agents are numbered from 1 to this.
+abbrev pub last-agent : ℕ
+last-agent = 64
+
 -- The sum over agents 1 to n.
 abbrev pub sum-agents : (ℕ → ℤ) → ℕ → ℤ
 sum-agents f zero = pos 0
@@ -73,16 +89,16 @@ pub record Law (o : Opening) (h : List Entry) (n : Seen) : Type 0 where
   -- The session is the tally's, and the lines are: they stand in the first places, and later places are as at opening.
   pub session : n .session ≡ tally-of o h .session
   pub lines : n .table ≡ over (tally-of o h .lines) (o .table)
-  -- From pairing on they are a pairing of the book, name fewer pairs than it has holders, and keep most contracts near.
-  pub paired : 4 ≤ session-number (tally-of o h .session) → Well-paired (o .book) (tally-of o h .lines)
+  pub paired : 4 ≤ session-number (tally-of o h .session) → Paired (o .book) (tally-of o h)
   -- Each balance and issue of both registers is the tally's.
   pub registers : (side : Side) → Same (register n side) (told o (tally-of o h) side)
   pub covered : Covered o h
   -- After whole settlement or close.
   pub ended : tally-of o h .session ≡ Closed → Ended o h n
-  -- The claims told are the tally's (0 until then), and add up to zero.
+  -- The nets and claims told are the tally's (nets 0 before pairing, claims 0 until a close), and claims add up to zero.
+  pub nets : (agent : ℕ) → n .net agent ≡ net (o .book) (tally-of o h .lines) agent
   pub claims : (agent : ℕ) → n .claim agent ≡ claim (o .book) (tally-of o h) agent
-  pub zero-sum : sum-agents (n .claim) 64 ≡ pos 0
+  pub zero-sum : sum-agents (n .claim) last-agent ≡ pos 0
 
 -- Wherever an expiry stands, the law holds.
 abbrev pub Law-holds : Type 0

@@ -151,11 +151,15 @@ first-failed [] = None
 first-failed ((true, e) ∷ rest) = first-failed rest
 first-failed ((false, e) ∷ rest) = Some e
 
--- 4 line places a holder; a securities account for each row and one for the house, and the book's assets; a cash
+-- Pairs are fewer than holders, and each makes at most one line for each of at most 4 assets.
+abbrev pub lines-a-holder : ℕ
+lines-a-holder = 4
+
+-- Places for all lines; a securities account for each row and one for the house, and the book's assets; a cash
 -- account for each agent and one for the house, and an asset, cash.
 abbrev pub room : Contents → ℕ → Meaning → Meaning → List (Bool × Part)
 room b places securities cash =
-  (leb (4 * length (b .holders)) places, part.LineTable)
+  (leb (lines-a-holder * length (b .holders)) places, part.LineTable)
   ∷ (ltb (length (b .holders)) (securities .accounts) && leb (length (b .assets)) (securities .assets), part.Register Securities)
   ∷ (not (any (λ h. leb (cash .accounts) (h .agent)) (b .holders)) && ltb 0 (cash .assets), part.Register Cash) ∷ []
 

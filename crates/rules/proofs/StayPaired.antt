@@ -9,18 +9,15 @@ use lib.IntN.{subℕ}
 use lib.ListN.{length}
 use Rattle.std.specs.shelf.Lists.{sumBy, All}
 use Rattle.std.proofs.shelf.Elements.{all-map}
+use Rattle.std.proofs.shelf.Lists.{length-map}
 use Rattle.pairing.specs.declared.line.Line.{Line}
 use Rattle.pairing.specs.declared.stage.Stage.{Stage}
 use Rattle.book.specs.Books.{Contents, holder, buys, sells}
 use Rattle.order.specs.First.{any}
-use Rattle.pairing.specs.Lines.{Lot, lines-of, total}
+use Rattle.pairing.specs.Lines.{total, of-seller}
 use Rattle.pairing.specs.Laws.{Pairing, Well-paired, position-on, within, different-pairs, group-of}
 use Rattle.rules.proofs.Totals.{map-kept}
-use Rattle.rules.proofs.Kept.{anew, Full-lots}
-
--- the hypothesis that the proof of pairing has to show: of full lots, the lines are a good pairing
-abbrev pub Pairs-well : Contents → Type 0
-Pairs-well b = (lots : List Lot) → Full-lots b lots → Well-paired b (lines-of b lots)
+use Rattle.rules.proofs.Kept.{anew}
 
 all-anew : (P : Line → Type 0) (ls : List Line) → All P (map anew ls) → All (λ l. P (anew l)) ls
 all-anew P [] a = tt
@@ -64,3 +61,14 @@ from-anew b ls w = record
 
 pub well-kept : (b : Contents) (ls ks : List Line) → map anew ls ≡ map anew ks → Well-paired b ks → Well-paired b ls
 well-kept b ls ks e w = from-anew b ls (subst (λ (z : List Line). Well-paired b z) (sym e) (to-anew b ks w))
+
+-- So do the contracts of a seller in an asset, and the number of lines.
+pub sold-kept : (ls ks : List Line) → map anew ls ≡ map anew ks → (row asset : ℕ)
+  → total (of-seller row asset) (λ l. l .contracts) ls ≡ total (of-seller row asset) (λ l. l .contracts) ks
+sold-kept ls ks e row asset =
+  sym (map-kept (λ l. cond (of-seller row asset l) (l .contracts) 0) anew ls (λ _. refl))
+  ∙ ap (λ z. sumBy (λ (l : Line). cond (of-seller row asset l) (l .contracts) 0) z) e
+  ∙ map-kept (λ l. cond (of-seller row asset l) (l .contracts) 0) anew ks (λ _. refl)
+
+pub length-kept : (ls ks : List Line) → map anew ls ≡ map anew ks → length ls ≡ length ks
+length-kept ls ks e = sym (length-map ls anew) ∙ ap length e ∙ length-map ks anew

@@ -28,12 +28,13 @@ use Rattle.rules.specs.Numbers.{session-number}
 use Rattle.rules.specs.Tally.{Opening, Tally, in-session, held, units, money, takes, line, no-line, settle, ended, accepted, with-lines}
 use Rattle.rules.specs.Verdict.{Check, decide, checks, answer, verdict}
 use Rattle.rules.specs.Histories.{Entry, Lived, Opens, tally-of}
-use Rattle.rules.proofs.Kept.{Kept, Sane, Makes-lines, Full-lots}
+use Rattle.rules.proofs.Kept.{Kept, Sane, Full-lots}
+use Rattle.rules.proofs.MadeLines.{made-lines}
 use Rattle.rules.proofs.Balances.{rows-all, agent-0}
-use Rattle.rules.proofs.Credits.{kept-first, kept-credit}
-use Rattle.rules.proofs.Takes.{kept-take, kept-draw}
-use Rattle.rules.proofs.Settles.{kept-line, kept-close, kept-whole}
-use Rattle.rules.proofs.Notices.{kept-notice, kept-end-1, kept-end-2, kept-end-4, kept-pair}
+use Rattle.rules.proofs.KeptByCredits.{kept-first, kept-credit}
+use Rattle.rules.proofs.KeptByTakes.{kept-take, kept-draw}
+use Rattle.rules.proofs.KeptBySettlements.{kept-line, kept-close, kept-whole}
+use Rattle.rules.proofs.KeptByNotices.{kept-notice, kept-end-1, kept-end-2, kept-end-4, kept-pair}
 
 -- an accepted call passed all its checks
 pub ok-checks : (cs : List Check) (c : Call) (a : Answer) → isOk (decide cs c a) ≡ true → All (λ (x : Check). x .0 ≡ true) cs
@@ -82,32 +83,32 @@ pub full-lots : (o : Opening) (t : Tally) → Kept o t → 3 ≤ session-number 
 full-lots o t k s3 = record { volumes = k .lots-full s3; assets = k .lots-assets }
 
 -- one accepted call
-pub kept-call : (o : Opening) (t : Tally) (c : Call) → Sound (o .book) → Makes-lines (o .book) → isOk (verdict o t c) ≡ true → Kept o t → Kept o (accepted o t c)
-kept-call o t (call.Notice speaker member number asset contracts) d mk e k =
+pub kept-call : (o : Opening) (t : Tally) (c : Call) → Sound (o .book) → isOk (verdict o t c) ≡ true → Kept o t → Kept o (accepted o t c)
+kept-call o t (call.Notice speaker member number asset contracts) d e k =
   let q = ok-checks (checks o t (call.Notice speaker member number asset contracts)) (call.Notice speaker member number asset contracts) (answer o t (call.Notice speaker member number asset contracts)) e in
   let w = and-parts _ _ (q .1 .1 .1 .1 .1 .0) in
   kept-notice o t (record { row = row-named (o .book) member number; asset = asset; contracts = contracts }) (in-1-or-2 (session-number (t .session)) (q .0)) (ltb-true asset (length (o .book .assets)) (q .1 .1 .1 .1 .0)) (q .1 .1 .0) (leb-true _ _ (w .1)) k
-kept-call o t call.End d mk e k =
+kept-call o t call.End d e k =
   let q = ok-checks (checks o t call.End) call.End (answer o t call.End) e in
   kept-ended o t (t .session) d refl (q .0) k
-kept-call o t call.Pair d mk e k =
+kept-call o t call.Pair d e k =
   let q = ok-checks (checks o t call.Pair) call.Pair (answer o t call.Pair) e in
-  kept-pair o t (eqb-true (session-number (t .session)) 3 (q .0)) (mk (t .lots) (full-lots o t k (let z = eqb-true (session-number (t .session)) 3 (q .0) in omega (arith, z)))) k
-kept-call o t (call.Credit side account asset amount) d mk e k =
+  kept-pair o t (eqb-true (session-number (t .session)) 3 (q .0)) (made-lines (o .book) d (t .lots) (full-lots o t k (let z = eqb-true (session-number (t .session)) 3 (q .0) in omega (arith, z)))) k
+kept-call o t (call.Credit side account asset amount) d e k =
   let q = ok-checks (checks o t (call.Credit side account asset amount)) (call.Credit side account asset amount) (answer o t (call.Credit side account asset amount)) e in
   kept-credit o t (record { side = side; account = account; asset = asset; amount = amount }) (ltb-true 0 account (q .1 .1 .0)) k
-kept-call o t (call.Take member number asset) d mk e k =
+kept-call o t (call.Take member number asset) d e k =
   let q = ok-checks (checks o t (call.Take member number asset)) (call.Take member number asset) (answer o t (call.Take member number asset)) e in
   let row : ℕ = row-named (o .book) member number in
   let w = in-4-or-5 (session-number (t .session)) (q .0) in
   kept-take o t row asset (takes o t row asset) (w .0) (w .1)
     (take-covered (in-session 5 t) (o .book .terms .multiplier) (outstanding (t .lines) row asset) (units o t row asset) (q .1 .1 .0)) k
-kept-call o t (call.Draw agent) d mk e k =
+kept-call o t (call.Draw agent) d e k =
   let q = ok-checks (checks o t (call.Draw agent)) (call.Draw agent) (answer o t (call.Draw agent)) e in
   let w = and-parts (ltb 0 (debit (o .book) (t .lines) agent)) (eqb (held t agent) 0) (q .1 .0) in
   kept-draw o t agent (eqb-true (session-number (t .session)) 4 (q .0)) (some-agent o t agent d k (ltb-true 0 (debit (o .book) (t .lines) agent) (w .0))) (ltb-true 0 (debit (o .book) (t .lines) agent) (w .0)) (eqb-true (held t agent) 0 (w .1))
     (leb-true (debit (o .book) (t .lines) agent) (money o t agent 0) (q .1 .1 .0)) k
-kept-call o t call.SettleWhole d mk e k =
+kept-call o t call.SettleWhole d e k =
   let b : Contents = o .book in
   let q = ok-checks (checks o t call.SettleWhole) call.SettleWhole (answer o t call.SettleWhole) e in
   let w = and-parts _ _ (q .1 .1 .0) in
@@ -115,14 +116,14 @@ kept-call o t call.SettleWhole d mk e k =
   let each = not-any (λ h. ltb (held t (h .agent)) (debit b (t .lines) (h .agent))) (λ h. debit b (t .lines) (h .agent) ≤ held t (h .agent)) (λ h f. ltb-false (held t (h .agent)) (debit b (t .lines) (h .agent)) f) (b .holders) (not-true _ (w .1)) in
   let drawn = all-weaker (Sane b) (λ l. debit b (t .lines) (buyer-agent b l) ≤ held t (buyer-agent b l)) (λ l v. rows-all (λ h. debit b (t .lines) (h .agent) ≤ held t (h .agent)) b each (l .buyer) (v .buyer)) (t .lines) (k .lines) in
   kept-whole o t (eqb-true (session-number (t .session)) 4 (q .0)) taken drawn k
-kept-call o t (call.SettleLine i) d mk e k =
+kept-call o t (call.SettleLine i) d e k =
   let q = ok-checks (checks o t (call.SettleLine i)) (call.SettleLine i) (answer o t (call.SettleLine i)) e in
   call-line o t i (eqb-true (session-number (t .session)) 5 (q .0)) (ltb-true 0 (inside (line t i)) (q .1 .0)) (leb-true _ _ (q .1 .1 .0)) k
-kept-call o t call.Close d mk e k =
+kept-call o t call.Close d e k =
   let q = ok-checks (checks o t call.Close) call.Close (answer o t call.Close) e in
   kept-close o t (eqb-true (session-number (t .session)) 5 (q .0)) k
 
-pub kept : (o : Opening) (h : List Entry) → Opens o → Makes-lines (o .book) → Lived o h → Kept o (tally-of o h)
-kept o [] p mk l = kept-first o
-kept o ((c, Ok a) ∷ h) p mk l = kept-call o (tally-of o h) c (p .book) mk (sym (ap isOk (l .0))) (kept o h p mk (l .1))
-kept o ((c, Err e) ∷ h) p mk l = kept o h p mk (l .1)
+pub kept : (o : Opening) (h : List Entry) → Opens o → Lived o h → Kept o (tally-of o h)
+kept o [] p l = kept-first o
+kept o ((c, Ok a) ∷ h) p l = kept-call o (tally-of o h) c (p .book) (sym (ap isOk (l .0))) (kept o h p (l .1))
+kept o ((c, Err e) ∷ h) p l = kept o h p (l .1)

@@ -25,8 +25,9 @@ use Rattle.rules.specs.Numbers.{session-number}
 use Rattle.rules.specs.Tally.{Opening, Tally, credited, held, with-lots, with-lines}
 use Rattle.rules.proofs.Totals.{sum-zero}
 use Rattle.pairing.proofs.FirstDeliverable.{first-deliverable-in}
-use Rattle.rules.proofs.Settles.{unspent}
-use Rattle.rules.proofs.Kept.{Kept, Sane, Made-line, Made-lines, Untouched, in-lots, for-sale, gave, got, spent, earned}
+use Rattle.rules.proofs.KeptBySettlements.{unspent}
+use Rattle.rules.proofs.MadeLines.{Made-line, Made-lines}
+use Rattle.rules.proofs.Kept.{Kept, Sane, Untouched, in-lots, for-sale, gave, got, spent, earned}
 
 in-lots-cons : (x : Lot) (lots : List Lot) (k : ℕ) → in-lots (x ∷ lots) k ≡ cond (eqb (x .row) k) (x .contracts) 0 + in-lots lots k
 in-lots-cons x lots k = sumBy-cons (λ (y : Lot). cond (eqb (y .row) k) (y .contracts) 0) x lots
@@ -138,7 +139,7 @@ untaken : (p : Bool) (x y : ℕ) → x ≡ 0 → cond p (x - y) 0 ≡ 0
 untaken true x y e = omega arith
 untaken false x y e = refl
 
-pub kept-pair : (o : Opening) (t : Tally) → session-number (t .session) ≡ 3 → Made-lines (o .book) (lines-of (o .book) (t .lots)) → Kept o t → Kept o (with-lines t WholeDelivery (lines-of (o .book) (t .lots)) (t .draws))
+pub kept-pair : (o : Opening) (t : Tally) → session-number (t .session) ≡ 3 → Made-lines (o .book) (t .lots) (lines-of (o .book) (t .lots)) → Kept o t → Kept o (with-lines t WholeDelivery (lines-of (o .book) (t .lots)) (t .draws))
 kept-pair o t e made s =
   let b : Contents = o .book in
   let m : ℕ = b .terms .multiplier in
@@ -152,7 +153,7 @@ kept-pair o t e made s =
   ; no-lines = λ h. absurd (omega arith)
   ; paired = λ h. refl
   ; lines = all-weaker (Made-line b) (Sane b) (made-sane b) ls (made .each)
-  ; few = made .few
+  ; few = made .contracts
   ; untouched = λ h. un; none-in = λ h. absurd (omega arith)
   ; closed = s .closed; closed-few = s .closed-few; not-closed = λ h. s .not-closed (omega arith); finished = λ h. absurd (omega arith)
   ; draws-before = λ h. dr; draws-after = λ h. absurd (omega arith); drawn = λ agent. inl (nil agent); draws = rw dr tt; some-drawn = s .some-drawn; once = s .once
