@@ -3,3 +3,5 @@ pub mod Tally
 pub mod Verdict
 pub mod Histories
 pub mod Law
+pub mod Examples
+pub mod Cases

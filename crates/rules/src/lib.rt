@@ -1,5 +1,6 @@
 // The words of an expiry: its sessions, its calls and their answers.
 ghost use Rattle.rules.specs.Law.{Law-holds};
+ghost use Rattle.rules.specs.Cases.{Worked-cases};
 pub mod session;
 pub mod side;
 pub mod speaker;
@@ -10,6 +11,13 @@ pub mod fault;
 // Wherever an expiry stands, after any history, the law holds.
 pub fn law_holds() -> u8
     ensures law_over_every_history { λ _. ⌜ Law-holds ⌝ }
+{
+    0
+}
+
+// The rules give what was worked out by hand: pairs, prices, lines, nets, takes, claims and openings.
+pub fn worked_cases_hold() -> u8
+    ensures cases_by_hand_agree { λ _. ⌜ Worked-cases ⌝ }
 {
     0
 }
