@@ -18,3 +18,4 @@ pub mod WholePays
 pub mod NeverCut
 pub mod TheLaw
 pub mod WorkedCases
+pub mod ExampleOpens

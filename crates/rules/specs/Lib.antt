@@ -5,3 +5,4 @@ pub mod Histories
 pub mod Law
 pub mod Examples
 pub mod Cases
+pub mod Premises

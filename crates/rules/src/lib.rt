@@ -1,5 +1,6 @@
 // The words of an expiry: its sessions, its calls and their answers.
 ghost use Rattle.rules.specs.Law.{Law-holds};
+ghost use Rattle.rules.specs.Premises.{Example-opens, Opened-stands, Any-calls-stand};
 ghost use Rattle.rules.specs.Cases.{Worked-cases};
 pub mod session;
 pub mod side;
@@ -18,6 +19,15 @@ pub fn law_holds() -> u8
 // The rules give what was worked out by hand: pairs, prices, lines, nets, takes, claims and openings.
 pub fn worked_cases_hold() -> u8
     ensures cases_by_hand_agree { λ _. ⌜ Worked-cases ⌝ }
+{
+    0
+}
+
+// The law supposes nothing that cannot be had: a book opens, what was opened stands, and so it does after any calls.
+pub fn law_is_not_hollow() -> u8
+    ensures the_example_opens { λ _. ⌜ Example-opens ⌝ }
+    ensures what_was_opened_stands { λ _. ⌜ Opened-stands ⌝ }
+    ensures stands_after_any_calls { λ _. ⌜ Any-calls-stand ⌝ }
 {
     0
 }
