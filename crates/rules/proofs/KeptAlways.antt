@@ -26,7 +26,8 @@ use Rattle.order.specs.First.{any}
 use Rattle.pairing.specs.Lines.{outstanding, open-on, inside, debit, buyer-agent}
 use Rattle.rules.specs.Numbers.{session-number}
 use Rattle.rules.specs.Tally.{Opening, Tally, in-session, held, units, money, takes, line, no-line, settle, ended, accepted, with-lines}
-use Rattle.rules.specs.Verdict.{Check, decide, checks, answer, verdict}
+use Rattle.rules.specs.Verdict.{checks, answer, verdict}
+use Rattle.rules.proofs.Checks.{ok-checks, not-any}
 use Rattle.rules.specs.Histories.{Entry, Lived, Opens, tally-of}
 use Rattle.rules.proofs.Kept.{Kept, Sane, Full-lots}
 use Rattle.rules.proofs.MadeLines.{made-lines}
@@ -35,16 +36,6 @@ use Rattle.rules.proofs.KeptByCredits.{kept-first, kept-credit}
 use Rattle.rules.proofs.KeptByTakes.{kept-take, kept-draw}
 use Rattle.rules.proofs.KeptBySettlements.{kept-line, kept-close, kept-whole}
 use Rattle.rules.proofs.KeptByNotices.{kept-notice, kept-end-1, kept-end-2, kept-end-4, kept-pair}
-
--- an accepted call passed all its checks
-pub ok-checks : (cs : List Check) (c : Call) (a : Answer) → isOk (decide cs c a) ≡ true → All (λ (x : Check). x .0 ≡ true) cs
-ok-checks [] c a e = tt
-ok-checks ((true, cause) ∷ rest) c a e = (refl, ok-checks rest c a e)
-ok-checks ((false, cause) ∷ rest) c a e = absurd (false≢true e)
-
-pub not-any : {X : Type 0} (p : X → Bool) (P : X → Type 0) → ((x : X) → p x ≡ false → P x) → (xs : List X) → any p xs ≡ false → All P xs
-not-any p P f [] e = tt
-not-any p P f (x ∷ xs) e = let q = or-parts (p x) (any p xs) e in (f x (q .0), not-any p P f xs (q .1))
 
 take-covered : (f : Bool) (m due u : ℕ) → leb (m * cond f 1 due) u ≡ true → m * cond f (min due (u / m)) due ≤ u
 take-covered true m due u e =

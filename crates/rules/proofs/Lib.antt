@@ -19,3 +19,8 @@ pub mod NeverCut
 pub mod TheLaw
 pub mod WorkedCases
 pub mod ExampleOpens
+pub mod ByNumber
+pub mod Posted
+pub mod Checks
+pub mod Opened
+pub mod OnlyShort

@@ -22,7 +22,7 @@ use Rattle.rules.specs.Verdict.{verdict, checks, answer, all-taken, all-drawn}
 use Rattle.rules.proofs.Totals.{total-or}
 use Rattle.rules.proofs.Kept.{Kept, Sane}
 use Rattle.rules.proofs.Balances.{rows-all, agent-in}
-use Rattle.rules.proofs.KeptAlways.{ok-checks, not-any}
+use Rattle.rules.proofs.Checks.{ok-checks, not-any}
 
 -- the sum over agents 1 to n
 abbrev pub over-agents : (ℕ → ℕ) → ℕ → ℕ

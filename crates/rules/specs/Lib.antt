@@ -6,3 +6,4 @@ pub mod Law
 pub mod Examples
 pub mod Cases
 pub mod Premises
+pub mod Postings

@@ -1,5 +1,6 @@
 // The words of an expiry: its sessions, its calls and their answers.
 ghost use Rattle.rules.specs.Law.{Law-holds};
+ghost use Rattle.rules.specs.Postings.{Only-short};
 ghost use Rattle.rules.specs.Premises.{Example-opens, Opened-stands, Any-calls-stand};
 ghost use Rattle.rules.specs.Cases.{Worked-cases};
 pub mod session;
@@ -28,6 +29,14 @@ pub fn law_is_not_hollow() -> u8
     ensures the_example_opens { λ _. ⌜ Example-opens ⌝ }
     ensures what_was_opened_stands { λ _. ⌜ Opened-stands ⌝ }
     ensures stands_after_any_calls { λ _. ⌜ Any-calls-stand ⌝ }
+{
+    0
+}
+
+// A due take, draw or line settlement finds accounts and asset known, the accounts different and the amount above 0, so
+// that its register can find it short and nothing else, and does so exactly where the balance does not cover it.
+pub fn due_calls_are_covered_or_short() -> u8
+    ensures short_is_the_only_refusal { λ _. ⌜ Only-short ⌝ }
 {
     0
 }
