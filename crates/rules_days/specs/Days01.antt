@@ -1,0 +1,93 @@
+-- Days that the separate player played, with what it told. Written by tests/rules_days.py.
+use Prim.Native.Nat.{ℕ}
+use mathlib.Core.List.{List, [], _∷_}
+use lib.IntN.{ℤ, pos, negsuc}
+use Rattle.rules.specs.declared.side.Side.the-variants.{Securities, Cash}
+use Rattle.rules.specs.declared.speaker.Speaker.the-variants as speaker
+use Rattle.rules.specs.declared.call.Call.the-variants as call
+use Rattle.rules.specs.declared.fault.Part.the-variants as part
+use Rattle.rules.specs.Examples.{asset, buyer, seller, book}
+use Rattle.rules_days.specs.Trials.{Day, asks, cramped, tell, ok, counts, refused, refused-by, stands}
+
+abbrev pub day-1 : Day
+day-1 = record
+  { book = book 0 0
+    ([])
+    ([])
+  ; places = 0; securities = (5, 2); cash = (2, 1)
+  ; placed = record { side = Securities; account = 0; asset = 0; amount = 1 } ∷ []
+  ; asked = []
+  ; told = refused 6 ∷ [] }
+
+abbrev pub day-2 : Day
+day-2 = record
+  { book = book 0 0
+    ([])
+    ([])
+  ; places = 1024; securities = (6, 2); cash = (3, 1)
+  ; placed = []
+  ; asked = []
+  ; told = refused 6 ∷ [] }
+
+abbrev pub day-3 : Day
+day-3 = record
+  { book = book 10 1000
+    (asset 1000000 0 1010 ∷ asset 900000 50 940 ∷ [])
+    (seller 1 1 1 1 5 ∷ buyer 1 2 1 1 3 ∷ buyer 2 1 1 1 4 ∷ seller 3 1 2 1 4 ∷ buyer 4 1 3 2 2 ∷ [])
+  ; places = 19; securities = (5, 2); cash = (2, 1)
+  ; placed = record { side = Securities; account = 0; asset = 0; amount = 1 } ∷ record { side = Cash; account = 0; asset = 0; amount = 1 } ∷ []
+  ; asked = []
+  ; told = refused 15 ∷ [] }
+
+abbrev pub day-4 : Day
+day-4 = record
+  { book = book 10 1000
+    (asset 1000000 0 1010 ∷ asset 900000 50 940 ∷ [])
+    (seller 1 1 1 1 5 ∷ buyer 1 2 1 1 3 ∷ buyer 2 1 1 1 4 ∷ seller 3 1 2 1 4 ∷ buyer 4 1 3 2 2 ∷ [])
+  ; places = 19; securities = (6, 2); cash = (3, 1)
+  ; placed = []
+  ; asked = []
+  ; told = refused 15 ∷ [] }
+
+abbrev pub day-5 : Day
+day-5 = record
+  { book = book 10 1000
+    (asset 1000000 0 1010 ∷ asset 900000 50 940 ∷ [])
+    (seller 1 1 1 1 5 ∷ buyer 1 2 1 1 3 ∷ buyer 2 1 1 1 4 ∷ seller 3 1 2 1 4 ∷ buyer 4 1 3 2 2 ∷ [])
+  ; places = 0; securities = (6, 2); cash = (3, 1)
+  ; placed = []
+  ; asked = []
+  ; told = refused 15 ∷ [] }
+
+abbrev pub day-6 : Day
+day-6 = record
+  { book = book 10 1000
+    (asset 1000000 0 1010 ∷ asset 900000 50 940 ∷ [])
+    (seller 1 1 1 1 5 ∷ buyer 1 2 1 1 3 ∷ buyer 2 1 1 1 4 ∷ seller 3 1 2 1 4 ∷ buyer 4 1 3 2 2 ∷ [])
+  ; places = 20; securities = (5, 2); cash = (2, 1)
+  ; placed = record { side = Securities; account = 0; asset = 1; amount = 1 } ∷ record { side = Cash; account = 0; asset = 0; amount = 1 } ∷ []
+  ; asked = []
+  ; told = refused-by Securities 15 ∷ [] }
+
+abbrev pub day-7 : Day
+day-7 = record
+  { book = book 10 1000
+    (asset 1000000 0 1010 ∷ asset 900000 50 940 ∷ [])
+    (seller 1 1 1 1 5 ∷ buyer 1 2 1 1 3 ∷ buyer 2 1 1 1 4 ∷ seller 3 1 2 1 4 ∷ buyer 4 1 3 2 2 ∷ [])
+  ; places = 20; securities = (5, 2); cash = (3, 1)
+  ; placed = []
+  ; asked = []
+  ; told = refused-by Securities 15 ∷ [] }
+
+abbrev pub day-8 : Day
+day-8 = record
+  { book = book 10 1000
+    (asset 1000000 0 1010 ∷ asset 900000 50 940 ∷ [])
+    (seller 1 1 1 1 5 ∷ buyer 1 2 1 1 3 ∷ buyer 2 1 1 1 4 ∷ seller 3 1 2 1 4 ∷ buyer 4 1 3 2 2 ∷ [])
+  ; places = 20; securities = (5, 16); cash = (3, 1)
+  ; placed = []
+  ; asked = []
+  ; told = refused-by Securities 15 ∷ [] }
+
+abbrev pub days : List Day
+days = day-1 ∷ day-2 ∷ day-3 ∷ day-4 ∷ day-5 ∷ day-6 ∷ day-7 ∷ day-8 ∷ []
