@@ -24,3 +24,6 @@ pub mod Posted
 pub mod Checks
 pub mod Opened
 pub mod OnlyShort
+pub mod CreditsKnown
+pub mod Conserved
+pub mod ToldLawful

@@ -113,7 +113,7 @@ take-short o t row a p k some =
     (product-some m (asked o t row a) (p .book .multiplier .0) (some-asked (cond (in-session 5 t) (min due (units o t row a / m)) due)))
   ∙ ap (λ (c : Bool). cond c None (Some Short)) (asked-covered (in-session 5 t) m due (units o t row a) (p .book .multiplier .0) some)
 
-agents-known : (o : Opening) (t : Tally) → Opens o → Kept o t → All (λ l. (0 < buyer-agent (o .book) l) × (buyer-agent (o .book) l < o .cash .accounts)) (t .lines)
+pub agents-known : (o : Opening) (t : Tally) → Opens o → Kept o t → All (λ l. (0 < buyer-agent (o .book) l) × (buyer-agent (o .book) l < o .cash .accounts)) (t .lines)
 agents-known o t p k = all-weaker (Sane (o .book)) (λ l. (0 < buyer-agent (o .book) l) × (buyer-agent (o .book) l < o .cash .accounts))
   (λ l v. (agent-in (o .book) (p .book) (l .buyer) (v .buyer) .0, room-for o p .agents (l .buyer) (v .buyer))) (t .lines) (k .lines)
 

@@ -16,6 +16,11 @@ use Rattle.pairing.specs.declared.line.Line.{Line}
 use Rattle.book.specs.Books.{Contents, value, invoice}
 use Rattle.rules.specs.Tally.{take-on, loaded, here}
 
+-- what holds of everything holds of each
+pub all-of : {X : Type 0} (P : X → Type 0) → ((x : X) → P x) → (xs : List X) → All P xs
+all-of P f [] = tt
+all-of P f (x ∷ xs) = (f x, all-of P f xs)
+
 pub sum-zero : {X : Type 0} (f : X → ℕ) (xs : List X) → All (λ x. f x ≡ 0) xs → sumBy f xs ≡ 0
 sum-zero f [] a = refl
 sum-zero f (x ∷ xs) a = let p = a .0 in let q = sum-zero f xs (a .1) in rw (sumBy-cons f x xs) (omega arith)

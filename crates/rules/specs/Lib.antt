@@ -7,3 +7,4 @@ pub mod Examples
 pub mod Cases
 pub mod Premises
 pub mod Postings
+pub mod Ranges

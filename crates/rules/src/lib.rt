@@ -1,6 +1,7 @@
 // The words of an expiry: its sessions, its calls and their answers.
 ghost use Rattle.rules.specs.Law.{Law-holds};
 ghost use Rattle.rules.specs.Postings.{Only-short};
+ghost use Rattle.rules.specs.Ranges.{Sums-in-range};
 ghost use Rattle.rules.specs.Premises.{Example-opens, Opened-stands, Any-calls-stand};
 ghost use Rattle.rules.specs.Cases.{Worked-cases};
 pub mod session;
@@ -37,6 +38,13 @@ pub fn law_is_not_hollow() -> u8
 // that its register can find it short and nothing else, and does so exactly where the balance does not cover it.
 pub fn due_calls_are_covered_or_short() -> u8
     ensures short_is_the_only_refusal { λ _. ⌜ Only-short ⌝ }
+{
+    0
+}
+
+// Contracts, units, values, nets, claims and balances stay in range, for every book and every history.
+pub fn sums_stay_in_range() -> u8
+    ensures no_sum_passes_its_range { λ _. ⌜ Sums-in-range ⌝ }
 {
     0
 }
