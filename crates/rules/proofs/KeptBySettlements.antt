@@ -45,7 +45,7 @@ value-up b p l = let e = value-add b (l .asset) (l .settled) (inside l) in cond-
 set-up : (f : Line → ℕ) (ls : List Line) (i : ℕ) (y : Line) → i < length ls → f (getD ls i no-line) ≤ f y → sumBy f ls ≤ sumBy f (set ls i y)
 set-up f ls i y lt h = let e = sumBy-set f ls i y no-line lt in omega (arith, e)
 
-set-kept : (f : Line → ℕ) (ls : List Line) (i : ℕ) (y : Line) → i < length ls → f (getD ls i no-line) ≡ f y → sumBy f (set ls i y) ≡ sumBy f ls
+pub set-kept : (f : Line → ℕ) (ls : List Line) (i : ℕ) (y : Line) → i < length ls → f (getD ls i no-line) ≡ f y → sumBy f (set ls i y) ≡ sumBy f ls
 set-kept f ls i y lt h = let e = sumBy-set f ls i y no-line lt in omega (arith, e)
 
 -- the line at place i, from 0
@@ -140,15 +140,24 @@ kept-close o t s5 s =
   }
 
 -- ---- the whole settlement: all contracts are taken, and every agent that buys has its debit drawn
-abbrev Full : Line → Type 0
+abbrev pub Full : Line → Type 0
 Full l = (l .settled ≡ 0) × (l .returned ≡ 0) × (l .taken ≡ l .contracts)
 
 full-value : (b : Contents) (p : Line → Bool) (l : Line) → Full l → cond (p l) (value b (l .asset) (l .settled + inside l)) 0 ≡ cond (p l) (value b (l .asset) (l .contracts)) 0
 full-value b p l f = let e : l .settled + inside l ≡ l .contracts = omega arith in ap (λ z. cond (p l) (value b (l .asset) z) 0) e
 
-all-full : (ls : List Line) → All Untouched ls → All (λ l. l .contracts ≤ l .taken) ls → All (λ l. l .taken ≤ l .contracts) ls → All Full ls
+pub all-full : (ls : List Line) → All Untouched ls → All (λ l. l .contracts ≤ l .taken) ls → All (λ l. l .taken ≤ l .contracts) ls → All Full ls
 all-full [] u t w = tt
 all-full (x ∷ xs) u t w = ((u .0 .0, u .0 .1, let p = t .0 in let q = w .0 in omega arith), all-full xs (u .1) (t .1) (w .1))
+
+-- Where all is settled at once, the value settled is the value of all contracts, for each agent.
+pub whole-spent : (b : Contents) (ls : List Line) (k : ℕ) → All Full ls → spent b (map settle ls) k ≡ value-bought b (λ l. l .contracts) ls k
+whole-spent b ls k full = map-same (λ l. cond (eqb (buyer-agent b l) k) (value b (l .asset) (l .settled)) 0) (λ l. cond (eqb (buyer-agent b l) k) (value b (l .asset) (l .contracts)) 0) settle ls
+  (all-weaker Full (λ l. cond (eqb (buyer-agent b l) k) (value b (l .asset) (l .settled + inside l)) 0 ≡ cond (eqb (buyer-agent b l) k) (value b (l .asset) (l .contracts)) 0) (full-value b (λ l. eqb (buyer-agent b l) k)) ls full)
+
+pub whole-earned : (b : Contents) (ls : List Line) (k : ℕ) → All Full ls → earned b (map settle ls) k ≡ value-sold b (λ l. l .contracts) ls k
+whole-earned b ls k full = map-same (λ l. cond (eqb (seller-agent b l) k) (value b (l .asset) (l .settled)) 0) (λ l. cond (eqb (seller-agent b l) k) (value b (l .asset) (l .contracts)) 0) settle ls
+  (all-weaker Full (λ l. cond (eqb (seller-agent b l) k) (value b (l .asset) (l .settled + inside l)) 0 ≡ cond (eqb (seller-agent b l) k) (value b (l .asset) (l .contracts)) 0) (full-value b (λ l. eqb (seller-agent b l) k)) ls full)
 
 pub unspent : (b : Contents) (p : Line → Bool) (ls : List Line) → All Untouched ls → sumBy (λ l. cond (p l) (value b (l .asset) (l .settled)) 0) ls ≡ 0
 unspent b p ls u = sum-zero (λ l. cond (p l) (value b (l .asset) (l .settled)) 0) ls (all-weaker Untouched (λ l. cond (p l) (value b (l .asset) (l .settled)) 0 ≡ 0) (λ l v. ap (λ z. cond (p l) (value b (l .asset) z) 0) (v .0) ∙ (ap (λ z. cond (p l) z 0) (value-zero b (l .asset)) ∙ nil (p l))) ls u)
@@ -203,8 +212,8 @@ kept-whole o t s4 taken drawn s =
       let u = s .money-covers k p in
       let z₁ : spent b ls k ≡ 0 = unspent b (λ l. eqb (buyer-agent b l) k) ls un in
       let z₂ : earned b ls k ≡ 0 = unspent b (λ l. eqb (seller-agent b l) k) ls un in
-      let e₁ : spent b (map settle ls) k ≡ value-bought b (λ l. l .contracts) ls k = map-same (λ l. cond (eqb (buyer-agent b l) k) (value b (l .asset) (l .settled)) 0) (λ l. cond (eqb (buyer-agent b l) k) (value b (l .asset) (l .contracts)) 0) settle ls (all-weaker Full (λ l. cond (eqb (buyer-agent b l) k) (value b (l .asset) (l .settled + inside l)) 0 ≡ cond (eqb (buyer-agent b l) k) (value b (l .asset) (l .contracts)) 0) (full-value b (λ l. eqb (buyer-agent b l) k)) ls full) in
-      let e₂ : earned b (map settle ls) k ≡ value-sold b (λ l. l .contracts) ls k = map-same (λ l. cond (eqb (seller-agent b l) k) (value b (l .asset) (l .settled)) 0) (λ l. cond (eqb (seller-agent b l) k) (value b (l .asset) (l .contracts)) 0) settle ls (all-weaker Full (λ l. cond (eqb (seller-agent b l) k) (value b (l .asset) (l .settled + inside l)) 0 ≡ cond (eqb (seller-agent b l) k) (value b (l .asset) (l .contracts)) 0) (full-value b (λ l. eqb (seller-agent b l) k)) ls full) in
+      let e₁ = whole-spent b ls k full in
+      let e₂ = whole-earned b ls k full in
       let d : (value-bought b (λ l. l .contracts) ls k ≡ 0) ⊎ (debit b ls k ≤ held t k) = total-or (λ l. eqb (buyer-agent b l) k) (λ l. value b (l .asset) (l .contracts)) (debit b ls k ≤ held t k) ls
         (all-weaker (λ l. debit b ls (buyer-agent b l) ≤ held t (buyer-agent b l)) (λ l. eqb (buyer-agent b l) k ≡ true → debit b ls k ≤ held t k) (λ l h e. rw (eqb-true (buyer-agent b l) k e) at h) ls drawn) in
       elim d [ inl z ↦ omega (arith, u, z₁, z₂, e₁, e₂, z) | inr z ↦ omega (arith, u, z₁, z₂, e₁, e₂, z) ]

@@ -25,7 +25,7 @@ use Rattle.rules.proofs.Balances.{units-at, money-at}
 gave-adds : (row a k x : ℕ) (m : ℕ) (l : Line) → cond (of-seller k x (loaded row a m l)) (l .taken + here row a m l - l .returned) 0 ≤ cond (of-seller k x l) (l .taken - l .returned) 0 + here row a m l
 gave-adds row a k x m l = grind (arith, tells)
 
-gave-kept : (row a k x : ℕ) → ((k ≡ row) × (x ≡ a) → ⊥) → (m : ℕ) (l : Line) → cond (of-seller k x l) (l .taken + here row a m l - l .returned) 0 ≡ cond (of-seller k x l) (l .taken - l .returned) 0
+pub gave-kept : (row a k x : ℕ) → ((k ≡ row) × (x ≡ a) → ⊥) → (m : ℕ) (l : Line) → cond (of-seller k x l) (l .taken + here row a m l - l .returned) 0 ≡ cond (of-seller k x l) (l .taken - l .returned) 0
 gave-kept row a k x apart m l = elim (cases-eq (l .seller) k)
   [ inl p ↦ elim (cases-eq (l .asset) x)
     [ inl q ↦

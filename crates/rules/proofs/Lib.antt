@@ -27,3 +27,6 @@ pub mod OnlyShort
 pub mod CreditsKnown
 pub mod Conserved
 pub mod ToldLawful
+pub mod Ledger
+pub mod PaidOut
+pub mod FollowedSettlements

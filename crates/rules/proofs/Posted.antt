@@ -46,7 +46,7 @@ known-move m giver taker asset amount g t a d p = elim (cases-bool (leb amount (
   | inr e ↦ let lt = leb-false amount (m .balance giver asset) e in
       rw (lt-leb (m .accounts) giver g, lt-leb (m .accounts) taker t, lt-leb (m .assets) asset a, ne-eqb giver taker d, ne-eqb amount 0 (λ z. omega arith), lt-ltb (m .balance giver asset) amount lt, e) refl ]
 
-moved-adds : (balance : ℕ → ℕ → ℕ) (giver taker asset amount : ℕ) → (giver ≡ taker → ⊥) → amount ≤ balance giver asset → (k a : ℕ)
+pub moved-adds : (balance : ℕ → ℕ → ℕ) (giver taker asset amount : ℕ) → (giver ≡ taker → ⊥) → amount ≤ balance giver asset → (k a : ℕ)
   → moved balance giver taker asset amount k a + cond (eqb giver k && eqb asset a) amount 0 ≡ balance k a + cond (eqb taker k && eqb asset a) amount 0
 moved-adds balance giver taker asset amount d le k a = elim (cases-eq asset a)
   [ inr x ↦ elim (cases-bool (eqb giver k))

@@ -58,6 +58,24 @@ map-same f g t (x ∷ xs) a =
   let p = a .0 in let q = map-same f g t xs (a .1) in
   rw (sumBy-cons f (t x) (map t xs), sumBy-cons g x xs) (omega arith)
 
+pub map-split : (f g h : Line → ℕ) (t : Line → Line) (ls : List Line) → All (λ l. f l ≡ g (t l) + h l) ls → sumBy f ls ≡ sumBy g (map t ls) + sumBy h ls
+map-split f g h t [] a = refl
+map-split f g h t (x ∷ xs) a =
+  let p = a .0 in let q = map-split f g h t xs (a .1) in
+  rw (sumBy-cons f x xs, sumBy-cons g (t x) (map t xs), sumBy-cons h x xs) (omega arith)
+
+pub map-more : (f h : Line → ℕ) (t : Line → Line) (ls : List Line) → All (λ l. f (t l) ≡ f l + h l) ls → sumBy f (map t ls) ≡ sumBy f ls + sumBy h ls
+map-more f h t [] a = refl
+map-more f h t (x ∷ xs) a =
+  let p = a .0 in let q = map-more f h t xs (a .1) in
+  rw (sumBy-cons f (t x) (map t xs), sumBy-cons f x xs, sumBy-cons h x xs) (omega arith)
+
+pub map-zero : (f : Line → ℕ) (t : Line → Line) (ls : List Line) → All (λ l. f (t l) ≡ 0) ls → sumBy f (map t ls) ≡ 0
+map-zero f t [] a = refl
+map-zero f t (x ∷ xs) a =
+  let p = a .0 in let q = map-zero f t xs (a .1) in
+  rw (sumBy-cons f (t x) (map t xs)) (omega arith)
+
 -- a take
 pub take-kept : (f : Line → ℕ) (row a n : ℕ) (ls : List Line) → ((m : ℕ) (l : Line) → f (loaded row a m l) ≡ f l) → sumBy f (take-on row a n ls) ≡ sumBy f ls
 take-kept f row a n [] e = refl

@@ -69,21 +69,26 @@ held-all o t s k =
 joined : (held all debits bought sold credits : ℕ) → held ≡ all → held ≡ debits → bought ≡ sold → debits + sold ≡ credits + bought → all ≡ credits
 joined held all debits bought sold credits p r n m = omega arith
 
-pub whole-pays : (o : Opening) (t : Tally) → Sound (o .book) → Kept o t → isOk (verdict o t call.SettleWhole) ≡ true
-  → all-held t ≡ over-agents (λ k. value-sold (o .book) (λ l. l .contracts) (t .lines) k - value-bought (o .book) (λ l. l .contracts) (t .lines) k)
-whole-pays o t s k e =
+-- Where a whole settlement is accepted, what is held of each agent is its debit.
+pub debits-held : (o : Opening) (t : Tally) → Kept o t → isOk (verdict o t call.SettleWhole) ≡ true → (agent : ℕ) → held t agent ≡ debit (o .book) (t .lines) agent
+debits-held o t k e x =
   let b : Contents = o .book in
   let ls : List Line = t .lines in
   let q = ok-checks (checks o t call.SettleWhole) call.SettleWhole (answer o t call.SettleWhole) e in
   let w = and-parts (all-taken t) (all-drawn o t) (q .1 .1 .0) in
   let each = not-any (λ h. ltb (held t (h .agent)) (debit b ls (h .agent))) (λ h. debit b ls (h .agent) ≤ held t (h .agent)) (λ h f. ltb-false (held t (h .agent)) (debit b ls (h .agent)) f) (b .holders) (not-true (any (λ h. ltb (held t (h .agent)) (debit b ls (h .agent))) (b .holders)) (w .1)) in
-  let drawn : (x : ℕ) → held t x ≡ debit b ls x = λ x.
-    elim (k .drawn x)
-      [ inr h ↦ h
-      | inl h ↦ elim (buys-or b (λ g. debit b ls g ≤ held t g) ls x (all-weaker (Sane b) (λ l. debit b ls (buyer-agent b l) ≤ held t (buyer-agent b l)) (λ l v. rows-all (λ y. debit b ls (y .agent) ≤ held t (y .agent)) b each (l .buyer) (v .buyer)) ls (k .lines)))
-          [ inl z ↦ omega (arith, h, z) | inr d ↦ omega (arith, h, d) ] ] in
+  elim (k .drawn x)
+    [ inr h ↦ h
+    | inl h ↦ elim (buys-or b (λ g. debit b ls g ≤ held t g) ls x (all-weaker (Sane b) (λ l. debit b ls (buyer-agent b l) ≤ held t (buyer-agent b l)) (λ l v. rows-all (λ y. debit b ls (y .agent) ≤ held t (y .agent)) b each (l .buyer) (v .buyer)) ls (k .lines)))
+        [ inl z ↦ omega (arith, h, z) | inr d ↦ omega (arith, h, d) ] ]
+
+pub whole-pays : (o : Opening) (t : Tally) → Sound (o .book) → Kept o t → isOk (verdict o t call.SettleWhole) ≡ true
+  → all-held t ≡ over-agents (λ k. value-sold (o .book) (λ l. l .contracts) (t .lines) k - value-bought (o .book) (λ l. l .contracts) (t .lines) k)
+whole-pays o t s k e =
+  let b : Contents = o .book in
+  let ls : List Line = t .lines in
   let p = held-all o t s k in
-  let r = agents .same (held t) (debit b ls) drawn in
+  let r = agents .same (held t) (debit b ls) (debits-held o t k e) in
   let n = bought-in-all b (λ l. l .contracts) ls s (k .lines) ∙ sym (sold-in-all b (λ l. l .contracts) ls s (k .lines)) in
   let m = short-over (value-bought b (λ l. l .contracts) ls) (value-sold b (λ l. l .contracts) ls) in
   joined (over-agents (held t)) (all-held t) (over-agents (debit b ls)) (over-agents (value-bought b (λ l. l .contracts) ls)) (over-agents (value-sold b (λ l. l .contracts) ls))

@@ -100,6 +100,17 @@ postings o t call.Close = for-lines t (λ l. pays Securities (l .seller) (l .ass
 
 -- ---- theorems
 
+-- Postings, made one after the other of a register, are all accepted and leave it as another.
+pub record Followed (side : Side) (before : Meaning) (ps : List Posting) (then : Meaning) : Type 0 where
+  pub none-refused : None-refused side before ps
+  pub as-then : Same (all-posted side before ps) then
+
+-- The postings of an accepted call, made of the registers as the tally tells them, are all accepted, and leave the
+-- registers as the tally tells them after the call. So the told balances are what the moves do.
+abbrev pub Postings-follow : Type 0
+Postings-follow = (o : Opening) (h : List Entry) (c : Call) → Opens o → Lived o h → isOk (verdict o (tally-of o h) c) ≡ true
+  → (side : Side) → Followed side (told o (tally-of o h) side) (postings o (tally-of o h) c) (told o (accepted o (tally-of o h) c) side)
+
 -- The first posting of a due take, draw or line settlement, refused by its register for nothing but being short, and
 -- that where the balance does not cover the call: accounts and asset are known, the accounts differ, the amount is above 0.
 abbrev pub First-refused : Opening → Tally → Call → Side → List Posting → Type 0
