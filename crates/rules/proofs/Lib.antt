@@ -30,3 +30,4 @@ pub mod ToldLawful
 pub mod Ledger
 pub mod PaidOut
 pub mod FollowedSettlements
+pub mod FollowedLine
