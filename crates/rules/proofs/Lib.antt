@@ -31,3 +31,4 @@ pub mod Ledger
 pub mod PaidOut
 pub mod FollowedSettlements
 pub mod FollowedLine
+pub mod FollowedTakes

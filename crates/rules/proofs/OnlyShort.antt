@@ -98,7 +98,7 @@ some-asked (suc n) = rw (ne-eqb (suc n) 0 (λ z. omega arith)) (omega arith)
 
 -- ---- the three calls
 
-take-short : (o : Opening) (t : Tally) (row a : ℕ) → Opens o → Kept o t → 0 < outstanding (t .lines) row a
+pub take-short : (o : Opening) (t : Tally) (row a : ℕ) → Opens o → Kept o t → 0 < outstanding (t .lines) row a
   → transfer-refused (told o t Securities) row 0 a (o .book .terms .multiplier * asked o t row a)
     ≡ cond (leb (o .book .terms .multiplier * cond (in-session 5 t) 1 (outstanding (t .lines) row a)) (units o t row a)) None (Some Short)
 take-short o t row a p k some =
@@ -117,7 +117,7 @@ pub agents-known : (o : Opening) (t : Tally) → Opens o → Kept o t → All (�
 agents-known o t p k = all-weaker (Sane (o .book)) (λ l. (0 < buyer-agent (o .book) l) × (buyer-agent (o .book) l < o .cash .accounts))
   (λ l v. (agent-in (o .book) (p .book) (l .buyer) (v .buyer) .0, room-for o p .agents (l .buyer) (v .buyer))) (t .lines) (k .lines)
 
-draw-short : (o : Opening) (t : Tally) (agent : ℕ) → Opens o → Kept o t → 0 < debit (o .book) (t .lines) agent
+pub draw-short : (o : Opening) (t : Tally) (agent : ℕ) → Opens o → Kept o t → 0 < debit (o .book) (t .lines) agent
   → transfer-refused (told o t Cash) agent 0 0 (debit (o .book) (t .lines) agent) ≡ cond (leb (debit (o .book) (t .lines) agent) (money o t agent 0)) None (Some Short)
 draw-short o t agent p k some =
   let w = debit-known (o .book) (λ g. (0 < g) × (g < o .cash .accounts)) (t .lines) agent (agents-known o t p k) some in
