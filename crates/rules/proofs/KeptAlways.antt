@@ -37,7 +37,7 @@ use Rattle.rules.proofs.KeptByTakes.{kept-take, kept-draw}
 use Rattle.rules.proofs.KeptBySettlements.{kept-line, kept-close, kept-whole}
 use Rattle.rules.proofs.KeptByNotices.{kept-notice, kept-end-1, kept-end-2, kept-end-4, kept-pair}
 
-take-covered : (f : Bool) (m due u : ℕ) → leb (m * cond f 1 due) u ≡ true → m * cond f (min due (u / m)) due ≤ u
+pub take-covered : (f : Bool) (m due u : ℕ) → leb (m * cond f 1 due) u ≡ true → m * cond f (min due (u / m)) due ≤ u
 take-covered true m due u e =
   let a : m * min due (u / m) ≤ m * (u / m) = mul-le-mul-left m (omega arith) in
   let b = mul-div-le u m in omega arith

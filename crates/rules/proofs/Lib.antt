@@ -32,3 +32,5 @@ pub mod PaidOut
 pub mod FollowedSettlements
 pub mod FollowedLine
 pub mod FollowedTakes
+pub mod FollowedEnds
+pub mod PostingsFollow

@@ -1,6 +1,6 @@
 // The words of an expiry: its sessions, its calls and their answers.
 ghost use Rattle.rules.specs.Law.{Law-holds};
-ghost use Rattle.rules.specs.Postings.{Only-short};
+ghost use Rattle.rules.specs.Postings.{Only-short, Postings-follow};
 ghost use Rattle.rules.specs.Ranges.{Sums-in-range};
 ghost use Rattle.rules.specs.Premises.{Example-opens, Opened-stands, Any-calls-stand};
 ghost use Rattle.rules.specs.Cases.{Worked-cases};
@@ -45,6 +45,14 @@ pub fn due_calls_are_covered_or_short() -> u8
 // Contracts, units, values, nets, claims and balances stay in range, for every book and every history.
 pub fn sums_stay_in_range() -> u8
     ensures no_sum_passes_its_range { λ _. ⌜ Sums-in-range ⌝ }
+{
+    0
+}
+
+// What an accepted call asks of the registers, move by move, is accepted by them, and leaves each balance and issue as
+// the tally tells it after the call.
+pub fn registers_follow_the_tally() -> u8
+    ensures postings_do_what_the_tally_tells { λ _. ⌜ Postings-follow ⌝ }
 {
     0
 }
