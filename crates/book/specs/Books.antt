@@ -10,10 +10,12 @@ use lib.ListN.{length, getD}
 use Rattle.std.specs.shelf.Lists.{sumBy, All}
 use Rattle.std.specs.declared.option.Option.{Option}
 use Rattle.std.specs.declared.option.Option.the-variants.{Some, None}
+use Rattle.book.specs.Limits.{most-multiplier, least-price, most-price, least-factor, most-factor, most-accrued, most-market, most-member, most-number, most-agent, most-position, most-bought, most-assets, most-holders}
 use Rattle.book.specs.declared.records.Terms.{Terms}
 use Rattle.book.specs.declared.records.Asset.{Asset}
 use Rattle.book.specs.declared.records.Holder.{Holder}
 
+-- What a book holds.
 pub record Contents : Type 0 where
   pub terms : Terms
   pub assets : List Asset
@@ -89,36 +91,48 @@ abbrev pub In : ℕ → ℕ → ℕ → Type 0
 In low high n = (low ≤ n) × (n ≤ high)
 
 pub record Asset-in-range (x : Asset) : Type 0 where
-  pub factor : In 100000 2000000 (x .factor)
-  pub accrued : In 0 10000000 (x .accrued)
-  pub market : In 1 210000000 (x .market)
+  pub factor : In least-factor most-factor (x .factor)
+  pub accrued : In 0 most-accrued (x .accrued)
+  pub market : In 1 most-market (x .market)
 
 pub record Holder-in-range (h : Holder) : Type 0 where
-  pub member : In 1 999 (h .member)
-  pub number : In 1 999999 (h .number)
-  pub clearing : In 1 999 (h .clearing)
-  pub agent : In 1 64 (h .agent)
-  pub volume : In 1 1000000 (volume h)
+  pub member : In 1 most-member (h .member)
+  pub number : In 1 most-number (h .number)
+  pub clearing : In 1 most-member (h .clearing)
+  pub agent : In 1 most-agent (h .agent)
+  pub volume : In 1 most-position (volume h)
 
 -- By member, then number.
 abbrev pub stands-before : Holder → Holder → Bool
 stands-before x y = cond (eqb (x .member) (y .member)) (ltb (x .number) (y .number)) (ltb (x .member) (y .member))
 
+-- Contracts bought, and contracts sold.
+abbrev pub bought-by : List Holder → ℕ
+bought-by hs = sumBy (λ h. cond (buys h) (volume h) 0) hs
+
+abbrev pub sold-by : List Holder → ℕ
+sold-by hs = sumBy (λ h. cond (sells h) (volume h) 0) hs
+
 abbrev pub bought : Contents → ℕ
-bought b = sumBy (λ h. cond (buys h) (volume h) 0) (b .holders)
+bought b = bought-by (b .holders)
 
 abbrev pub sold : Contents → ℕ
-sold b = sumBy (λ h. cond (sells h) (volume h) 0) (b .holders)
+sold b = sold-by (b .holders)
 
+-- The contents of a book that exists.
 pub record Sound (b : Contents) : Type 0 where
-  pub multiplier : In 1 1000 (b .terms .multiplier)
-  pub price : In 100 100000000 (b .terms .price)
-  pub asset-count : In 1 4 (length (b .assets))
+  pub multiplier : In 1 most-multiplier (b .terms .multiplier)
+  pub price : In least-price most-price (b .terms .price)
+  pub asset-count : In 1 most-assets (length (b .assets))
   pub assets : All Asset-in-range (b .assets)
-  pub holder-count : In 1 256 (length (b .holders))
+  pub holder-count : In 1 most-holders (length (b .holders))
   pub holders : All Holder-in-range (b .holders)
   pub ascending : (r s : ℕ) → 1 ≤ r → r < s → s ≤ length (b .holders) → stands-before (holder b r) (holder b s) ≡ true
   pub one-clearing : (r s : ℕ) → In 1 (length (b .holders)) r → In 1 (length (b .holders)) s → holder b r .member ≡ holder b s .member → holder b r .clearing ≡ holder b s .clearing
   pub one-agent : (r s : ℕ) → In 1 (length (b .holders)) r → In 1 (length (b .holders)) s → holder b r .clearing ≡ holder b s .clearing → holder b r .agent ≡ holder b s .agent
   pub balanced : bought b ≡ sold b
-  pub few : bought b ≤ 1000000
+  pub few : bought b ≤ most-bought
+
+-- The empty book, all zero.
+abbrev pub empty : Contents
+empty = record { terms = record { multiplier = 0; price = 0 }; assets = []; holders = [] }

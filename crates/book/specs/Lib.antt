@@ -1,1 +1,10 @@
+pub mod Limits
 pub mod Books
+pub mod Lawful
+pub mod Format
+pub mod Refusals
+pub mod Reading
+pub mod Data
+pub mod Laws
+pub mod Lookup
+pub mod Cases

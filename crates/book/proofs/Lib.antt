@@ -1,0 +1,15 @@
+pub mod AllOf
+pub mod RecordValues
+pub mod ReaderTurns
+pub mod Inversions
+pub mod DraftText
+pub mod FileOfBook
+pub mod TextReads
+pub mod SoundLawful
+pub mod TextLength
+pub mod OneFile
+pub mod ReadsEmpty
+pub mod BookKept
+pub mod PageOfBook
+pub mod WriteWays
+pub mod RowOf

@@ -1,0 +1,7 @@
+// Which line of a file comes next.
+#[derive(Clone, Copy)]
+pub enum Awaits {
+    Heading,
+    Terms,
+    Rows,
+}

@@ -1,0 +1,9 @@
+pub mod Scans
+pub mod PartsAt
+pub mod NumberForms
+pub mod Collects
+pub mod Ranges
+pub mod Taken
+pub mod RowWays
+pub mod WrittenLine
+pub mod RoundTrip

@@ -1,0 +1,4 @@
+pub mod Parts
+pub mod Number
+pub mod Rows
+pub mod Pages
