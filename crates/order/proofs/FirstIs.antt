@@ -1,3 +1,4 @@
+-- The definition of the first record that passes: where it gives a record, where none, and that the words say the same.
 use Prim.Native.Nat.{ℕ, zero, suc, _+_, _-_, _<_, _≤_}
 use native.Mathlib.Numerals.{add-one}
 use mathlib.Core.Path.{_≡_, refl, sym, ap, subst, _∙_}
@@ -8,7 +9,7 @@ use lib.ListN.{length, getD}
 use native.Mathlib.Omega.{arith}
 use Rattle.std.specs.declared.option.Option.{Option}
 use Rattle.std.specs.declared.option.Option.the-variants.{Some, None}
-use Rattle.order.specs.First.{chosen, first}
+use Rattle.order.specs.First.{First, FirstOpen, chosen, first, place-of}
 
 module _ {X : Type 0} (leq : X → X → Bool) where
 
@@ -82,3 +83,11 @@ module _ {X : Type 0} (leq : X → X → Bool) where
   none-passes passes [] d h = refl
   none-passes passes (x ∷ xs) d h =
     ap (chosen leq (passes x) x) (none-passes passes xs d (λ k lt. h (suc k) (omega arith))) ∙ ap (λ t. cond {A = Option (ℕ × X)} t (Some (0, x)) None) (h 0 (omega arith))
+
+  -- What the words fit is what the definition gives.
+  pub words-defined : (isOpen : X → Bool) (xs : List X) (o : Option ℕ) → FirstOpen leq isOpen xs o → o ≡ place-of (first leq isOpen xs)
+  words-defined isOpen [] None none = refl
+  words-defined isOpen (x ∷ xs) None none = sym (ap place-of (none-passes isOpen (x ∷ xs) x (λ k h. none k x h)))
+  words-defined isOpen [] (Some b) f = absurd (omega (arith, f .within))
+  words-defined isOpen (x ∷ xs) (Some b) f =
+    sym (ap place-of (first-is isOpen (x ∷ xs) b x (f .within) (f .passing x) (λ k h. f .least k x h) (λ k h. f .earliest k x h)))

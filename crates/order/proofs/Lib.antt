@@ -1,2 +1,3 @@
 pub mod FirstIs
 pub mod FirstLeast
+pub mod Searching

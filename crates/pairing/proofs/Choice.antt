@@ -18,37 +18,10 @@ use Rattle.pairing.specs.declared.stage.Stage.{Stage}
 use Rattle.order.specs.First.{Total, first, any}
 use Rattle.pairing.specs.Orders.{holder-leq}
 use Rattle.pairing.specs.Pairing.{no-holder, side-in, buys-in, sells-in, on-side, pair-of, first-pair, equal-pair}
-use Rattle.pairing.proofs.PairWords.{at}
+use Rattle.pairing.specs.InWords.{at, Stands-first, Largest-equal, First-two, None-equal}
 use Rattle.order.proofs.FirstIs.{first-some}
 use Rattle.order.proofs.FirstLeast.{any-has, has-any, first-least, none-first}
 use Rattle.pairing.proofs.HolderOrder.{holder-order, leq-volume}
-
--- The holder at place i stands first by the order among those of its side of the group (buyers where t) that pass.
-pub record Stands-first (g : Group) (t : Bool) (passes : Unpaired → Type 0) (hs : List Unpaired) (i : ℕ) : Type 0 where
-  pub inside : i < length hs
-  pub on : side-in g t (at hs i) ≡ true
-  pub passing : passes (at hs i)
-  pub before : (k : ℕ) → k < length hs → side-in g t (at hs k) ≡ true → passes (at hs k) → holder-leq (at hs i) (at hs k) ≡ true
-
--- A pair for equal volumes: its volume is the largest that stands on both sides of the group, its buyer and seller
--- have it, and each stands first by the order among those of its side that have it.
-pub record Largest-equal (g : Group) (hs : List Unpaired) (p : Pair) : Type 0 where
-  pub stage : p .stage ≡ g .stage
-  pub buyer : Stands-first g true (λ h. h .volume ≡ p .contracts) hs (p .buyer)
-  pub seller : Stands-first g false (λ h. h .volume ≡ p .contracts) hs (p .seller)
-  pub largest : (i k : ℕ) → i < length hs → k < length hs → buys-in g (at hs i) ≡ true → sells-in g (at hs k) ≡ true
-    → at hs i .volume ≡ at hs k .volume → at hs i .volume ≤ p .contracts
-
--- Another pair: the first buyer and the first seller of the group, for the smaller volume of both.
-pub record First-two (g : Group) (hs : List Unpaired) (p : Pair) : Type 0 where
-  pub stage : p .stage ≡ g .stage
-  pub buyer : Stands-first g true (λ h. Unit {0}) hs (p .buyer)
-  pub seller : Stands-first g false (λ h. Unit {0}) hs (p .seller)
-  pub smaller : p .contracts ≡ min (at hs (p .buyer) .volume) (at hs (p .seller) .volume)
-
--- No volume stands on both sides of the group.
-abbrev pub None-equal : Group → List Unpaired → Type 0
-None-equal g hs = (i k : ℕ) → i < length hs → k < length hs → buys-in g (at hs i) ≡ true → sells-in g (at hs k) ≡ true → at hs i .volume ≡ at hs k .volume → ⊥
 
 -- A holder of side t whose volume stands on side u.
 abbrev stands : Group → List Unpaired → Bool → Bool → Unpaired → Bool

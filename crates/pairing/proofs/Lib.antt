@@ -12,6 +12,7 @@ pub mod LineSteps
 pub mod LineNames
 pub mod LineRuns
 pub mod LineWords
+pub mod LinesAgree
 pub mod LineLaws
 pub mod LineNear
 pub mod LineParts
@@ -24,3 +25,4 @@ pub mod Told
 pub mod ToldOnce
 pub mod FarLots
 pub mod SoundSample
+pub mod WorkedCases

@@ -23,9 +23,11 @@ use Rattle.book.specs.Books.{Contents, Sound, holder, nobody, buys, sells, volu
 use Rattle.pairing.specs.Pairing.{unpaired, pairs}
 use Rattle.pairing.specs.Lines.{Lot, lot, total, of-seller, fresh, lines-of}
 use Rattle.pairing.specs.Laws.{position-on, different-pairs, Pairing}
-use Rattle.pairing.proofs.PairWords.{at, contracts-of, Sides, Lawful}
+use Rattle.pairing.specs.InWords.{at}
+use Rattle.pairing.proofs.PairWords.{contracts-of, Sides, Lawful}
 use Rattle.pairing.proofs.PairLaws.{rows, rows-length, row-is, sound-rows, pairs-lawful}
-use Rattle.pairing.proofs.LineWords.{Notified, Fresh}
+use Rattle.pairing.specs.Laws.{Notified}
+use Rattle.pairing.proofs.LineWords.{Fresh}
 use Rattle.pairing.proofs.LineSums.{over-assets, over-parts, by-assets}
 use Rattle.pairing.proofs.LineSteps.{sold-of, between, In-lots}
 use Rattle.pairing.proofs.LineRuns.{between-pairs, Enough, runs-between, runs-in-lots, runs-all, runs-length, runs-names}

@@ -21,10 +21,11 @@ use Rattle.book.specs.Books.{Contents, Sound, holder, nobody, buys, sells, volu
 use Rattle.pairing.specs.Pairing.{unpaired, pairs, key}
 use Rattle.pairing.specs.Lines.{Lot, total, lines-of}
 use Rattle.pairing.specs.Laws.{position-on, group-of, within, Pairing, Well-paired}
-use Rattle.pairing.proofs.PairWords.{at, contracts-of, Sides, Lawful}
+use Rattle.pairing.specs.InWords.{at}
+use Rattle.pairing.proofs.PairWords.{contracts-of, Sides, Lawful}
 use Rattle.pairing.proofs.PairWords as words
 use Rattle.pairing.proofs.PairLaws.{rows, rows-length, row-is, pairs-lawful}
-use Rattle.pairing.proofs.LineWords.{Notified}
+use Rattle.pairing.specs.Laws.{Notified}
 use Rattle.pairing.proofs.LineSteps.{between}
 use Rattle.pairing.proofs.LineRuns.{between-pairs}
 use Rattle.pairing.proofs.LineLaws.{in-book, no-row, lines-between, lines-pairing, lines-fewer}

@@ -16,23 +16,11 @@ use Rattle.pairing.specs.declared.line.Line.{Line}
 use Rattle.book.specs.Books.{Contents, Sound}
 use Rattle.pairing.specs.Pairing.{pairs}
 use Rattle.pairing.specs.Lines.{Lot, lot, left, add-line, fresh, lines-of-pair, lines-of-pairs, lines-of}
-use Rattle.pairing.proofs.LineWords.{Notified}
+use Rattle.pairing.specs.Laws.{Notified, Of, contracts-in, Parts, done, part}
 use Rattle.pairing.proofs.LineSums.{over-assets}
 use Rattle.pairing.proofs.LineSteps.{In-lots, room, pair-in-lots}
 use Rattle.pairing.proofs.LineRuns.{Enough, covered, covers-rest, assets-rest}
 use Rattle.pairing.proofs.LineLaws.{enough}
-
--- A line of a pair: of its stage, buyer and seller.
-abbrev pub Of : Pair → Line → Type 0
-Of p l = (l .stage ≡ p .stage) × (l .buyer ≡ p .buyer + 1) × (l .seller ≡ p .seller + 1)
-
-abbrev pub contracts-in : List Line → ℕ
-contracts-in ls = sumBy (λ l. l .contracts) ls
-
--- The lines are parts of the pairs: for each pair, in order, some lines of it, which have its contracts.
-pub data Parts : List Pair → List Line → Type 0 where
-  done : Parts [] []
-  part : {p : Pair} {ps : List Pair} {rest : List Line} (new : List Line) → All (Of p) new → contracts-in new ≡ p .contracts → Parts ps rest → Parts (p ∷ ps) (new ++ rest)
 
 record Part (p : Pair) (n : ℕ) (ls rs : List Line) : Type 0 where
   new : List Line

@@ -8,12 +8,6 @@ use lib.ListN.{length}
 use Rattle.std.specs.shelf.Lists.{All, sumBy}
 use Rattle.pairing.specs.declared.line.Line.{Line}
 use Rattle.book.specs.Books.{Contents, holder, buys, sells, volume}
-use Rattle.pairing.specs.Lines.{Lot}
-
--- Each seller's lots add up to its volume, and lots name assets of the book only.
-pub record Notified (b : Contents) (lots : List Lot) : Type 0 where
-  pub assets : All (λ x. x .asset < length (b .assets)) lots
-  pub whole : (row : ℕ) → sells (holder b row) ≡ true → sumBy (λ x. cond (eqb (x .row) row) (x .contracts) 0) lots ≡ volume (holder b row)
 
 -- A line as pairing makes it: some contracts of a buyer and a seller in an asset of the book, with nothing taken yet.
 pub record Fresh (b : Contents) (l : Line) : Type 0 where

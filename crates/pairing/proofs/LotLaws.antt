@@ -24,7 +24,7 @@ use Rattle.pairing.specs.Lines.{Lot, added, added-from, lines-of}
 use Rattle.order.proofs.FirstIs.{first-some}
 use Rattle.pairing.proofs.Shares.{at-most}
 use Rattle.pairing.proofs.PairLaws.{rows, rows-bought, pairs-lawful}
-use Rattle.pairing.proofs.LineWords.{Notified}
+use Rattle.pairing.specs.Laws.{Notified}
 use Rattle.pairing.proofs.LineLaws.{lines-between}
 
 deliverables-length : (price a : ℕ) (xs : List Asset) → length (deliverables price a xs) ≡ length xs

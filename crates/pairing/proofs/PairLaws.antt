@@ -22,7 +22,8 @@ use Rattle.pairing.specs.declared.stage.Group.{Group}
 use Rattle.book.specs.Books.{Contents, Sound, Holder-in-range, holder, nobody, buys, sells, volume}
 use Rattle.book.specs.Books as books
 use Rattle.pairing.specs.Pairing.{no-holder, paired, repeat, in-group, in-groups, equal-pair, first-pair, all-groups, unpaired, pairs}
-use Rattle.pairing.proofs.PairWords.{at, Repeats, In-group, equal-first, Paired, over, group, groups, stages, bought, sold, whole, open-count, Made, Sound-rows, Lawful}
+use Rattle.pairing.specs.InWords.{at, bought, sold}
+use Rattle.pairing.proofs.PairWords.{Repeats, In-group, equal-first, Paired, over, group, groups, stages, whole, open-count, Made, Sound-rows, Lawful}
 use Rattle.pairing.proofs.Runs.{fair-counts, made-length}
 use Rattle.pairing.proofs.Rules.{first-fair, equal-fair, repeats-made}
 use Rattle.pairing.proofs.Unique.{run-repeats}
@@ -30,7 +31,7 @@ use Rattle.pairing.proofs.Theorems.{pairing-laws}
 
 -- ---- the fuelled functions satisfy the relations
 
-open-le : (hs : List Unpaired) → open-count hs ≤ length hs
+pub open-le : (hs : List Unpaired) → open-count hs ≤ length hs
 open-le hs = countBy-le-length (λ h. ltb 0 (h .volume)) hs
 
 pub in-group-holds : (g : Group) (hs : List Unpaired) → In-group g hs (in-group g hs .0) (in-group g hs .1)
@@ -46,7 +47,7 @@ pub in-groups-holds : (gs : List Group) (hs : List Unpaired) → Paired gs hs (i
 in-groups-holds [] hs = over
 in-groups-holds (g ∷ gs) hs = group (in-group-holds g hs) (in-groups-holds gs (in-group g hs .1))
 
-groups-are : all-groups ≡ groups
+pub groups-are : all-groups ≡ groups
 unfolding all-groups stages
 groups-are = refl
 

@@ -14,10 +14,8 @@ use Rattle.pairing.specs.declared.pair.Pair.{Pair}
 use Rattle.pairing.specs.declared.stage.Group.{Group}
 use Rattle.pairing.specs.declared.stage.Stage.{Stage}
 use Rattle.pairing.specs.declared.stage.Stage.the-variants.{Member, Clearing, Agent, Whole}
-use Rattle.pairing.specs.Pairing.{key, no-holder, paired, equal-pair, first-pair, numbered}
-
-abbrev pub at : List Unpaired → ℕ → Unpaired
-at hs i = getD hs i no-holder
+use Rattle.pairing.specs.Pairing.{key, paired, equal-pair, first-pair, numbered}
+use Rattle.pairing.specs.InWords.{at, bought, sold}
 
 -- The pairs ps are made one after the other, each the next one, from the holders hs until there is none; then they are at ks.
 pub data Repeats (next : List Unpaired → Option Pair) : List Unpaired → List Pair → List Unpaired → Type 0 where
@@ -59,16 +57,6 @@ pub record Pairing (hs : List Unpaired) (ps : List Pair) : Type 0 where
 abbrev pub within : (ℕ → ℕ) → ℕ → List Pair → ℕ
 within place n ps = sumBy (λ p. cond (eqb (place (p .buyer)) n && eqb (place (p .seller)) n) (p .contracts) 0) ps
 
--- The unpaired volume of the holders that pass.
-abbrev pub volume-of : (Unpaired → Bool) → List Unpaired → ℕ
-volume-of passes hs = sumBy (λ h. cond (passes h) (h .volume) 0) hs
-
-abbrev pub bought : Group → List Unpaired → ℕ
-bought g hs = volume-of (λ h. h .buys && eqb (key (g .stage) h) (g .number)) hs
-
-abbrev pub sold : Group → List Unpaired → ℕ
-sold g hs = volume-of (λ h. not (h .buys) && eqb (key (g .stage) h) (g .number)) hs
-
 abbrev pub whole : Group
 whole = record { stage = Whole; number = 0 }
 
@@ -107,10 +95,6 @@ pub record Fair (g : Group) (hs : List Unpaired) (p : Pair) : Type 0 where
 pub data Made (G : Group → Type 0) : List Unpaired → List Pair → List Unpaired → Type 0 where
   none : {hs : List Unpaired} → Made G hs [] hs
   one : {p : Pair} {ps : List Pair} {hs ks : List Unpaired} (g : Group) → G g → Fair g hs p → Made G (paired p hs) ps ks → Made G hs (p ∷ ps) ks
-
--- One side of a group is empty.
-abbrev pub Emptied : Group → List Unpaired → Type 0
-Emptied g hs = (bought g hs ≡ 0) ⊎ (sold g hs ≡ 0)
 
 -- ---- the laws
 

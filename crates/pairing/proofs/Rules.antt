@@ -19,7 +19,8 @@ use Rattle.pairing.specs.declared.stage.Stage.{Stage}
 use Rattle.pairing.specs.Pairing.{on-side, buys-in, sells-in, pair-of, first-pair, equal-pair, key, no-holder, paired}
 use Rattle.order.specs.First.{first}
 use Rattle.pairing.specs.Orders.{holder-leq, holder-open}
-use Rattle.pairing.proofs.PairWords.{at, Repeats, stop, more, In-group, equal-first, Paired, over, group, volume-of, bought, sold, Emptied, Fair, Made, none, one}
+use Rattle.pairing.specs.InWords.{at, volume-of, bought, sold, Emptied}
+use Rattle.pairing.proofs.PairWords.{Repeats, stop, more, In-group, equal-first, Paired, over, group, Fair, Made, none, one}
 use Rattle.order.proofs.FirstIs.{first-some, first-none}
 use Rattle.pairing.proofs.Runs.{made-append}
 

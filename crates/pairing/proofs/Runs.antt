@@ -17,7 +17,8 @@ use Rattle.pairing.specs.declared.stage.Group.{Group}
 use Rattle.pairing.specs.declared.stage.Stage.{Stage}
 use Rattle.pairing.specs.declared.stage.Stage.the-variants.{Member, Clearing, Agent, Whole}
 use Rattle.pairing.specs.Pairing.{key, less, lower, no-holder, paired}
-use Rattle.pairing.proofs.PairWords.{at, contracts-of, Sides, Pairing, within, volume-of, bought, sold, whole, Nested, Emptied, rank, open-count, Fair, Made, none, one}
+use Rattle.pairing.specs.InWords.{at, volume-of, bought, sold, Emptied}
+use Rattle.pairing.proofs.PairWords.{contracts-of, Sides, Pairing, within, whole, Nested, rank, open-count, Fair, Made, none, one}
 use Rattle.pairing.proofs.Steps as step
 
 -- ---- a fair pair

@@ -13,7 +13,7 @@ use Rattle.book.specs.declared.records.Holder.{Holder}
 use Rattle.book.specs.Books.{Contents, Sound, In, holder, stands-before, sells, volume}
 use Rattle.pairing.specs.Lines.{Lot, lines-of}
 use Rattle.pairing.specs.Laws.{Well-paired}
-use Rattle.pairing.proofs.LineWords.{Notified}
+use Rattle.pairing.specs.Laws.{Notified}
 use Rattle.pairing.proofs.LineNear.{lines-well-paired}
 
 abbrev small : Contents

@@ -16,7 +16,8 @@ use Rattle.pairing.specs.declared.stage.Group.{Group}
 use Rattle.pairing.specs.declared.stage.Stage.{Stage}
 use Rattle.pairing.specs.declared.stage.Stage.the-variants.{Member, Clearing, Agent, Whole}
 use Rattle.pairing.specs.Pairing.{key, less, lower, no-holder, paired}
-use Rattle.pairing.proofs.PairWords.{at, contracts-of, Sides, Pairing, within, volume-of, bought, sold, whole, Fair, Made, none, one}
+use Rattle.pairing.specs.InWords.{at, volume-of, bought, sold}
+use Rattle.pairing.proofs.PairWords.{contracts-of, Sides, Pairing, within, whole, Fair, Made, none, one}
 
 -- ---- a part of a holder that does not change with its volume
 

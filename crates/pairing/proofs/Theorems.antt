@@ -17,7 +17,8 @@ use Rattle.pairing.specs.declared.stage.Group.{Group}
 use Rattle.pairing.specs.declared.stage.Stage.{Stage}
 use Rattle.pairing.specs.declared.stage.Stage.the-variants.{Member, Clearing, Agent, Whole}
 use Rattle.pairing.specs.Pairing.{key, no-holder, numbered}
-use Rattle.pairing.proofs.PairWords.{groups, at, Paired, In-group, group, over, stages, Pairing, within, bought, sold, whole, Nested, Emptied, rank, open-count, Made, Sound-rows, Nearest, Lawful, Pairing-laws}
+use Rattle.pairing.specs.InWords.{at, bought, sold, Emptied}
+use Rattle.pairing.proofs.PairWords.{groups, Paired, In-group, group, over, stages, Pairing, within, whole, Nested, rank, open-count, Made, Sound-rows, Nearest, Lawful, Pairing-laws}
 use Rattle.pairing.proofs.Shares.{at-most}
 use Rattle.pairing.proofs.Runs.{made-pairing, all-used, made-near, made-fewer, made-length, made-append}
 use Rattle.pairing.proofs.Rules.{in-group-made, in-group-emptied, paired-made, paired-split, Split}

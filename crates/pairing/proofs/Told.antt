@@ -9,25 +9,11 @@ use Rattle.pairing.specs.declared.pair.Pair.{Pair}
 use Rattle.pairing.specs.declared.stage.Group.{Group}
 use Rattle.book.specs.Books.{Contents}
 use Rattle.pairing.specs.Pairing.{paired, equal-pair, first-pair, in-groups, all-groups, pairs}
-use Rattle.pairing.proofs.PairWords.{Repeats, stop, more, In-group, equal-first, Paired, over, group, Emptied}
+use Rattle.pairing.specs.InWords.{Equals, none-equal, equal, Firsts, one-side, first, Told, all-told, told, Emptied, Largest-equal, First-two, None-equal}
+use Rattle.pairing.proofs.PairWords.{Repeats, stop, more, In-group, equal-first, Paired, over, group}
 use Rattle.pairing.proofs.Rules.{no-pair-emptied}
-use Rattle.pairing.proofs.Choice.{Largest-equal, First-two, None-equal, equal-largest, equal-none, first-two}
+use Rattle.pairing.proofs.Choice.{equal-largest, equal-none, first-two}
 use Rattle.pairing.proofs.PairLaws.{rows, in-groups-holds}
-
--- While some volume stands on both sides of the group, a pair of the largest such volume.
-pub data Equals (g : Group) : List Unpaired → List Pair → List Unpaired → Type 0 where
-  none-equal : {hs : List Unpaired} → None-equal g hs → Equals g hs [] hs
-  equal : {p : Pair} {ps : List Pair} {hs ks : List Unpaired} → Largest-equal g hs p → Equals g (paired p hs) ps ks → Equals g hs (p ∷ ps) ks
-
--- While both sides of the group have unpaired volume, the first buyer and the first seller.
-pub data Firsts (g : Group) : List Unpaired → List Pair → List Unpaired → Type 0 where
-  one-side : {hs : List Unpaired} → Emptied g hs → Firsts g hs [] hs
-  first : {p : Pair} {ps : List Pair} {hs ks : List Unpaired} → First-two g hs p → Firsts g (paired p hs) ps ks → Firsts g hs (p ∷ ps) ks
-
--- Group after group, first the one and then the other.
-pub data Told : List Group → List Unpaired → List Pair → List Unpaired → Type 0 where
-  all-told : {hs : List Unpaired} → Told [] hs [] hs
-  told : {g : Group} {gs : List Group} {hs ks ls ms : List Unpaired} (ps qs rs : List Pair) → Equals g hs ps ks → Firsts g ks qs ls → Told gs ls rs ms → Told (g ∷ gs) hs ((ps ++ qs) ++ rs) ms
 
 equals-told : (g : Group) {hs : List Unpaired} {ps : List Pair} {ks : List Unpaired} → Repeats (equal-pair g) hs ps ks → Equals g hs ps ks
 equals-told g (stop {hs = hs} e) = none-equal (equal-none g hs e)

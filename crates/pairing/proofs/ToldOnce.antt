@@ -19,11 +19,10 @@ use Rattle.book.specs.Books.{Contents, Sound, holder, stands-before}
 use Rattle.order.specs.First.{Total}
 use Rattle.pairing.specs.Orders.{holder-leq, holder-open}
 use Rattle.pairing.specs.Pairing.{no-holder, key, side-in, less, lower, paired, in-groups, all-groups, pairs}
-use Rattle.pairing.proofs.PairWords.{at, bought, sold, Emptied}
+use Rattle.pairing.specs.InWords.{at, bought, sold, Emptied, Stands-first, Largest-equal, First-two, None-equal, Equals, none-equal, equal, Firsts, one-side, first, Told, all-told, told, As-told}
 use Rattle.pairing.proofs.Steps.{lower-keeps}
 use Rattle.pairing.proofs.HolderOrder.{holder-order}
-use Rattle.pairing.proofs.Choice.{Stands-first, Largest-equal, First-two, None-equal}
-use Rattle.pairing.proofs.Told.{Equals, none-equal, equal, Firsts, one-side, first, Told, all-told, told, book-told}
+use Rattle.pairing.proofs.Told.{book-told}
 use Rattle.pairing.proofs.PairLaws.{rows, rows-length, row-is}
 
 -- No two places have the same member and number.
@@ -148,3 +147,6 @@ book-distinct b ok i k hi hk em en =
 -- Any pairs that the rules tell of a sound book are its pairs.
 pub book-once : (b : Contents) → Sound b → (ps : List Pair) (ks : List Unpaired) → Told all-groups (rows b) ps ks → ps ≡ pairs b
 book-once b ok ps ks t = told-once all-groups (rows b) ps ks (book-distinct b ok) t (pairs b) (in-groups all-groups (rows b) .1) (book-told b)
+
+pub pairs-as-told : (b : Contents) → Sound b → As-told b (pairs b)
+pairs-as-told b ok = record { told = (in-groups all-groups (rows b) .1, book-told b); only = book-once b ok }

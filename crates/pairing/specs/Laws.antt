@@ -2,17 +2,18 @@
 use Prim.Native.Nat.{ℕ, _+_, _≤_, _<_}
 use mathlib.Core.Path.{_≡_}
 use mathlib.Core.Bool.{Bool, true, false, _&&_, cond}
-use mathlib.Core.List.{List, [], _∷_}
+use mathlib.Core.List.{List, [], _∷_, _++_}
 use lib.Dec.{eqb}
 use lib.IntN.{ℤ, subℕ}
 use lib.ListN.{length}
-use Rattle.std.specs.shelf.Lists.{All}
+use Rattle.std.specs.shelf.Lists.{All, sumBy}
 use Rattle.order.specs.First.{any}
-use Rattle.book.specs.Books.{Contents, holder, buys, sells}
+use Rattle.book.specs.Books.{Contents, holder, buys, sells, volume}
 use Rattle.pairing.specs.declared.stage.Stage.{Stage}
+use Rattle.pairing.specs.declared.pair.Pair.{Pair}
 use Rattle.pairing.specs.declared.line.Line.{Line}
 use Rattle.pairing.specs.Pairing.{key, unpaired}
-use Rattle.pairing.specs.Lines.{total}
+use Rattle.pairing.specs.Lines.{Lot, lot, total, of-seller}
 
 -- What the lines of a row add up to: bought contracts count plus, sold ones minus.
 abbrev pub position-on : List Line → ℕ → ℤ
@@ -37,8 +38,38 @@ abbrev pub different-pairs : List Line → ℕ
 different-pairs [] = 0
 different-pairs (l ∷ ls) = cond (any (λ k. eqb (k .buyer) (l .buyer) && eqb (k .seller) (l .seller)) ls) 0 1 + different-pairs ls
 
+-- Every other pairing has at most as many contracts within each member, clearing member and agent.
+abbrev pub Nearest : Contents → List Line → Type 0
+Nearest b ls = (other : List Line) → Pairing b other → (stage : Stage) (number : ℕ) → within b stage number other ≤ within b stage number ls
+
+-- Lines that pair a book as they should: each contract, in few pairs, and most contracts near.
 pub record Well-paired (b : Contents) (ls : List Line) : Type 0 where
   pub pairing : Pairing b ls
   pub fewer : different-pairs ls < length (b .holders)
-  -- Every other pairing has at most as many contracts within each member, clearing member and agent.
-  pub nearest : (other : List Line) → Pairing b other → (stage : Stage) (number : ℕ) → within b stage number other ≤ within b stage number ls
+  pub nearest : Nearest b ls
+
+-- ---- lots
+
+-- Each seller's lots add up to its volume, and lots name assets of the book only.
+pub record Notified (b : Contents) (lots : List Lot) : Type 0 where
+  pub assets : All (λ x. x .asset < length (b .assets)) lots
+  pub whole : (row : ℕ) → sells (holder b row) ≡ true → sumBy (λ x. cond (eqb (x .row) row) (x .contracts) 0) lots ≡ volume (holder b row)
+
+-- Each seller's lines of an asset add up to its lot.
+abbrev pub Lots-used : Contents → List Lot → List Line → Type 0
+Lots-used b lots ls = (row : ℕ) → sells (holder b row) ≡ true → (a : ℕ) → a < length (b .assets)
+  → total (of-seller row a) (λ l. l .contracts) ls ≡ lot lots row a
+
+-- ---- pairs and lines
+
+-- A line of a pair: of its stage, buyer and seller; rows are places and one.
+abbrev pub Of : Pair → Line → Type 0
+Of p l = (l .stage ≡ p .stage) × (l .buyer ≡ p .buyer + 1) × (l .seller ≡ p .seller + 1)
+
+abbrev pub contracts-in : List Line → ℕ
+contracts-in ls = sumBy (λ l. l .contracts) ls
+
+-- The lines are parts of the pairs: for each pair, in order, some lines of it, which have its contracts.
+pub data Parts : List Pair → List Line → Type 0 where
+  done : Parts [] []
+  part : {p : Pair} {ps : List Pair} {rest : List Line} (new : List Line) → All (Of p) new → contracts-in new ≡ p .contracts → Parts ps rest → Parts (p ∷ ps) (new ++ rest)

@@ -4,7 +4,7 @@ use mathlib.Core.Bool.{Bool, true, false, _&&_, cond}
 use mathlib.Core.List.{List, [], _∷_, _++_}
 use lib.Dec.{eqb}
 use lib.IntN.{ℤ, pos, subℕ, _+ℤ_, _-ℤ_, _*ℤ_}
-use lib.ListN.{length}
+use lib.ListN.{length, drop}
 use Rattle.std.specs.shelf.Lists.{sumBy}
 use Rattle.book.specs.declared.records.Holder.{Holder}
 use Rattle.pairing.specs.declared.pair.Pair.{Pair}
@@ -85,6 +85,10 @@ lines-of-pairs lots assets (p ∷ ps) ls = lines-of-pairs lots assets ps (lines-
 -- The lines of a book with these lots, numbered from 1.
 abbrev pub lines-of : Contents → List Lot → List Line
 lines-of b lots = lines-of-pairs lots (length (b .assets)) (pairs b) []
+
+-- A table with lines in its first places, and later places as they were.
+abbrev pub over : List Line → List Line → List Line
+over lines table = lines ++ drop (length lines) table
 
 -- ---- the contracts of a line
 

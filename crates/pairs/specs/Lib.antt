@@ -1,0 +1,4 @@
+pub mod Search
+pub mod Records
+pub mod Refusals
+pub mod Outcome

@@ -1,0 +1,8 @@
+// Pairs a book by the rule, and writes the lines.
+pub mod fault;
+pub mod lots;
+mod handing;
+mod lines;
+mod rows;
+mod search;
+pub mod book;
