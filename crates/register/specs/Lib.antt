@@ -1,3 +1,5 @@
 pub mod Faults
 pub mod Rules
 pub mod Registers
+pub mod Instructions
+pub mod Deliveries

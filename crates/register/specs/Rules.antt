@@ -55,12 +55,12 @@ transfer-refused m giver taker asset amount =
   (cond (ltb (m .balance giver asset) amount) (Some Short) None))))
 
 -- A register answers with the first reason to refuse, or accepts.
-abbrev pub Answer : Type 0
-Answer = Result (Unit {0}) RegisterFault
-
-abbrev pub answer : Option RegisterFault → Answer
+abbrev pub answer : {F : Type 0} → Option F → Result (Unit {0}) F
 answer None = Ok tt
 answer (Some fault) = Err fault
+
+abbrev pub Answer : Type 0
+Answer = Result (Unit {0}) RegisterFault
 
 abbrev pub credit-answer : Meaning → ℕ → ℕ → ℕ → Answer
 credit-answer m account asset amount = answer (credit-refused m account asset amount)
@@ -102,7 +102,7 @@ with-move m giver taker asset amount = record {
 }
 
 -- What is new where a call was accepted, what was where it was refused.
-abbrev pub unless-refused : {X : Type 0} → Option RegisterFault → X → X → X
+abbrev pub unless-refused : {F X : Type 0} → Option F → X → X → X
 unless-refused None new old = new
 unless-refused (Some _) new old = old
 

@@ -1,0 +1,4 @@
+pub mod Sums
+pub mod Meanings
+pub mod Alike
+pub mod Payments

@@ -1,0 +1,3 @@
+pub mod Overs
+pub mod Tables
+pub mod Makes

@@ -1,0 +1,4 @@
+pub mod Table
+pub mod Lawful
+pub mod Make
+pub mod TableMeaning
