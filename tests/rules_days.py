@@ -35,7 +35,7 @@ use Rattle.rules.specs.declared.side.Side.the-variants.{Securities, Cash}
 use Rattle.rules.specs.declared.speaker.Speaker.the-variants as speaker
 use Rattle.rules.specs.declared.call.Call.the-variants as call
 use Rattle.rules.specs.declared.fault.Part.the-variants as part
-use Rattle.rules.specs.Examples.{asset, buyer, seller, book}
+use Rattle.pairing.specs.Cases.{asset, buyer, seller, book}
 use Rattle.rules_days.specs.Trials.{Day, asks, cramped, tell, ok, counts, refused, refused-by, stands}
 """
 

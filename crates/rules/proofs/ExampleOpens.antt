@@ -5,7 +5,7 @@ use mathlib.Core.Bool.{Bool, true, cond}
 use lib.Dec.{eqb}
 use native.Mathlib.Omega.{arith}
 use Rattle.book.specs.Books.{Sound, In, holder, stands-before}
-use Rattle.rules.specs.Examples.{example}
+use Rattle.pairing.specs.Cases.{example}
 use Rattle.rules.specs.Premises.{Example-opens}
 
 -- Rows 1 to 5, and none else.

@@ -1,19 +1,12 @@
 -- The worked cases, by computation.
 use mathlib.Core.Path.{refl}
 use Rattle.pairing.specs.Pairing.{all-groups}
-use Rattle.rules.specs.Cases.{Pairing-cases, Price-cases, Delivery-cases, Opening-cases, Worked-cases}
-
-pairing-cases : Pairing-cases
-unfolding all-groups
-pairing-cases = record { equal-volumes-first = refl; equal-volumes-below = refl; order-read-again = refl; equal-volumes-not-again = refl }
-
-price-cases : Price-cases
-unfolding all-groups
-price-cases = record { half-up = refl; invoice-prices = (refl, refl); first = refl; lines = refl; values = refl; nets = (refl, refl) }
+use Rattle.pairing.proofs.WorkedCases as pairing
+use Rattle.rules.specs.Cases.{Delivery-cases, Opening-cases, Worked-cases}
 
 delivery-cases : Delivery-cases
 unfolding all-groups
-delivery-cases = record { take-with-25 = refl; take-with-9 = refl; but-line-4-answers = refl; claims = (refl, refl); named-refusal = refl }
+delivery-cases = record { lines = refl; nets = (refl, refl); take-with-25 = refl; take-with-9 = refl; but-line-4-answers = refl; claims = (refl, refl); named-refusal = refl }
 
 opening-cases : Opening-cases
 opening-cases = record
@@ -21,4 +14,4 @@ opening-cases = record
   ; no-cash-asset = refl; house-holds-units = refl; house-holds-cash = refl; just-enough = refl }
 
 pub worked-cases : Worked-cases
-worked-cases = (pairing-cases, price-cases, delivery-cases, opening-cases)
+worked-cases = (pairing.worked-cases, delivery-cases, opening-cases)

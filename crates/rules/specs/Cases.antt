@@ -1,16 +1,15 @@
 -- Worked cases: what the rules give for books and calls that can be worked out by hand.
 use Prim.Native.Nat.{ℕ}
 use mathlib.Core.Path.{_≡_}
-use mathlib.Core.List.{List, [], _∷_, map}
+use mathlib.Core.List.{List, [], _∷_}
 use lib.IntN.{pos, negsuc}
 use Rattle.std.specs.declared.option.Option.the-variants.{Some, None}
 use Rattle.std.specs.declared.result.Result.the-variants.{Err}
-use Rattle.register.specs.declared.fault.RegisterFault.the-variants.{UnknownAccount, Short}
-use Rattle.book.specs.Books.{invoice, invoice-of, value}
+use Rattle.register.specs.declared.fault.RegisterFault.the-variants.{UnknownAccount}
 use Rattle.pairing.specs.declared.stage.Stage.the-variants.{Member, Clearing, Agent, Whole}
-use Rattle.pairing.specs.Orders.{first-deliverable}
-use Rattle.pairing.specs.Pairing.{pairs}
 use Rattle.pairing.specs.Lines.{net}
+use Rattle.pairing.specs.Cases as pairing
+use Rattle.pairing.specs.Cases.{book, a-line, example}
 use Rattle.rules.specs.declared.side.Side.the-variants.{Securities, Cash}
 use Rattle.rules.specs.declared.call.Call.{Call}
 use Rattle.rules.specs.declared.call.Call.the-variants as call
@@ -19,37 +18,11 @@ use Rattle.rules.specs.declared.fault.Part.the-variants as part
 use Rattle.rules.specs.declared.fault.OpeningFault.the-variants as opening
 use Rattle.rules.specs.Tally.{empty, claim}
 use Rattle.rules.specs.Verdict.{opening-refused, verdict}
-use Rattle.rules.specs.Examples.{asset, buyer, seller, book, a-pair, a-line, zeros, house-holds, opens-with, opening, codes, final, one-group, example}
+use Rattle.rules.specs.Examples.{zeros, house-holds, opens-with, opening, codes, final}
 
--- Letters are holders in ascending order, of one group; places count from 0.
-pub record Pairing-cases : Type 0 where
-  -- Buyers A 5, B 4; sellers C 4, D 3, E 2: BC 4, AD 3, AE 2.
-  pub equal-volumes-first : pairs (one-group (buyer 1 1 1 1 5 ∷ buyer 1 2 1 1 4 ∷ seller 1 3 1 1 4 ∷ seller 1 4 1 1 3 ∷ seller 1 5 1 1 2 ∷ []))
-    ≡ a-pair Member 1 2 4 ∷ a-pair Member 0 3 3 ∷ a-pair Member 0 4 2 ∷ []
-  -- The equal volume need not be the largest of either side. A 5, B 2; C 4, D 2, E 1: BD 2, AC 4, AE 1.
-  pub equal-volumes-below : pairs (one-group (buyer 1 1 1 1 5 ∷ buyer 1 2 1 1 2 ∷ seller 1 3 1 1 4 ∷ seller 1 4 1 1 2 ∷ seller 1 5 1 1 1 ∷ []))
-    ≡ a-pair Member 1 3 2 ∷ a-pair Member 0 2 4 ∷ a-pair Member 0 4 1 ∷ []
-  -- A 7, B 5; C 6, D 4, E 2: AC 6, BD 4, AE 1, BE 1.
-  pub order-read-again : pairs (one-group (buyer 1 1 1 1 7 ∷ buyer 1 2 1 1 5 ∷ seller 1 3 1 1 6 ∷ seller 1 4 1 1 4 ∷ seller 1 5 1 1 2 ∷ []))
-    ≡ a-pair Member 0 2 6 ∷ a-pair Member 1 3 4 ∷ a-pair Member 0 4 1 ∷ a-pair Member 1 4 1 ∷ []
-  -- A 10, B 4; C 7, D 3, E 2, F 2: AC 7, BD 3, AE 2, AF 1, BF 1.
-  pub equal-volumes-not-again : pairs (one-group (buyer 1 1 1 1 10 ∷ buyer 1 2 1 1 4 ∷ seller 1 3 1 1 7 ∷ seller 1 4 1 1 3 ∷ seller 1 5 1 1 2 ∷ seller 1 6 1 1 2 ∷ []))
-    ≡ a-pair Member 0 2 7 ∷ a-pair Member 1 3 3 ∷ a-pair Member 0 4 2 ∷ a-pair Member 0 5 1 ∷ a-pair Member 1 5 1 ∷ []
-
--- Prices, lines, values and nets. The example book has no notices before it is paired.
+-- The example book has no notices before it is paired.
 abbrev pub to-pairing : List Call
 to-pairing = call.End ∷ call.End ∷ call.Pair ∷ []
-
-pub record Price-cases : Type 0 where
-  -- Price 105, factor 900,000, no accrued interest: 94.5 rounds to 95.
-  pub half-up : invoice-of 105 (asset 900000 0 1) ≡ 95
-  pub invoice-prices : (invoice example 0 ≡ 1000) × (invoice example 1 ≡ 950)
-  -- 940 less 950 is below 1,010 less 1,000.
-  pub first : first-deliverable example ≡ 1
-  pub lines : final example to-pairing .lines
-    ≡ a-line Member 2 1 1 3 0 0 0 ∷ a-line Clearing 3 1 1 2 0 0 0 ∷ a-line Agent 3 4 1 2 0 0 0 ∷ a-line Whole 5 4 1 2 0 0 0 ∷ []
-  pub values : map (λ l. value example (l .asset) (l .contracts)) (final example to-pairing .lines) ≡ 28500 ∷ 19000 ∷ 19000 ∷ 19000 ∷ []
-  pub nets : (net example (final example to-pairing .lines) 1 ≡ pos 19000) × (net example (final example to-pairing .lines) 2 ≡ negsuc 18999)
 
 -- All but line 4 is settled, and then closed: nothing is in on line 4 (13).
 abbrev pub but-line-4 : List Call
@@ -58,6 +31,9 @@ but-line-4 = call.End ∷ call.End ∷ call.Pair ∷ call.Credit Securities 1 1 
   ∷ call.SettleLine 1 ∷ call.SettleLine 2 ∷ call.SettleLine 3 ∷ call.SettleLine 4 ∷ call.Close ∷ []
 
 pub record Delivery-cases : Type 0 where
+  -- The calls make the lines of the book, and tell its nets.
+  pub lines : final example to-pairing .lines ≡ a-line Member 2 1 1 3 ∷ a-line Clearing 3 1 1 2 ∷ a-line Agent 3 4 1 2 ∷ a-line Whole 5 4 1 2 ∷ []
+  pub nets : (net example (final example to-pairing .lines) 1 ≡ pos 19000) × (net example (final example to-pairing .lines) 2 ≡ negsuc 18999)
   -- Holder 3,1 in row 4 has 25 units, and 4 contracts of 10 units: a take is short (24) in session 4 and 2 contracts in 5.
   pub take-with-25 : codes example (call.End ∷ call.End ∷ call.Pair ∷ call.Credit Securities 4 1 25 ∷ call.Take 3 1 1 ∷ call.End ∷ call.Take 3 1 1 ∷ call.Take 3 1 1 ∷ [])
     ≡ (0, 0) ∷ (0, 0) ∷ (0, 4) ∷ (0, 0) ∷ (24, 0) ∷ (0, 0) ∷ (0, 2) ∷ (24, 0) ∷ []
@@ -84,5 +60,6 @@ pub record Opening-cases : Type 0 where
   -- What the book does not deliver, and what is not cash, a house may hold.
   pub just-enough : opening-refused (opens-with example 20 (house-holds 6 3 2) (house-holds 3 2 1)) ≡ None
 
+-- With those of pairing: pairs, prices, the lines of the example book and their values.
 abbrev pub Worked-cases : Type 0
-Worked-cases = Pairing-cases × Price-cases × Delivery-cases × Opening-cases
+Worked-cases = pairing.Worked-cases × Delivery-cases × Opening-cases

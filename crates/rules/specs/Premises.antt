@@ -8,7 +8,8 @@ use Rattle.rules.specs.declared.side.Side.the-variants.{Securities, Cash}
 use Rattle.rules.specs.declared.call.Call.{Call}
 use Rattle.rules.specs.Tally.{Opening, held, told, claim}
 use Rattle.rules.specs.Histories.{Entry, tally-of, Seen, over, Opens, Stands, history}
-use Rattle.rules.specs.Examples.{opening, example}
+use Rattle.pairing.specs.Cases.{example}
+use Rattle.rules.specs.Examples.{opening}
 
 -- What is seen of an expiry that was just opened: nothing of its own yet, and all it was given as it was.
 abbrev pub at-first : Opening → Seen
