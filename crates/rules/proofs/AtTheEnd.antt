@@ -1,27 +1,26 @@
 -- At the end account 0 holds nothing, and every line is finished.
-use mathlib.Core.Path.{_≡_, refl, sym, _∙_, ap}
-use mathlib.Core.Bool.{Bool, true, false, cond, _&&_}
+use mathlib.Core.Path.{_≡_, refl, _∙_, ap}
+use mathlib.Core.Bool.{Bool, true, false, cond}
 use mathlib.Core.Logic.{inl, inr}
-use mathlib.Core.List.{List, [], _∷_, _++_, map}
-use Prim.Native.Nat.{ℕ, zero, suc, _+_, _-_, _*_, _≤_, _<_}
+use mathlib.Core.List.{List, _∷_}
+use Prim.Native.Nat.{ℕ, zero, suc, _+_, _-_, _*_, _<_}
 use native.Mathlib.Omega.{arith}
 use native.Mathlib.Nat.{mul-zero}
-use lib.Dec.{eqb}
 use lib.ListN.{length, getD}
-use Rattle.std.specs.shelf.Lists.{sumBy, All}
+use Rattle.std.specs.shelf.Lists.{All}
 use Rattle.std.proofs.shelf.Elements.{all-weaker, all-getD}
 use Rattle.std.proofs.shelf.Lists.{getD-past}
 use Rattle.std.proofs.shelf.Tests.{cases-lt}
 use Rattle.pairing.specs.declared.line.Line.{Line}
 use Rattle.rules.specs.declared.session.Session.the-variants.{Closed}
 use Rattle.rules.specs.declared.side.Side.the-variants.{Securities, Cash}
-use Rattle.pairing.specs.Lines.{total, of-asset, inside, unsettled}
+use Rattle.pairing.specs.Lines.{total, of-asset, inside}
 use Rattle.rules.specs.Numbers.{session-number}
-use Rattle.rules.specs.Tally.{Opening, Tally, credited, held, all-held, units, money, no-line}
-use Rattle.rules.specs.Histories.{Entry, Opens, Seen, Stands, tally-of, register}
+use Rattle.rules.specs.Tally.{Opening, Tally, held, all-held, units, money, no-line}
+use Rattle.rules.specs.Histories.{Entry, Opens, Seen, Stands, tally-of}
 use Rattle.rules.specs.Law.{Finished, Ended}
 use Rattle.rules.proofs.Totals.{sum-zero}
-use Rattle.rules.proofs.Kept.{Kept, Sane, None-in, gave, got}
+use Rattle.rules.proofs.Kept.{Kept, None-in, gave, got}
 use Rattle.rules.proofs.Balances.{row-0, agent-0}
 use Rattle.rules.proofs.Opened.{house-at-first}
 use Rattle.rules.proofs.KeptAlways.{kept}

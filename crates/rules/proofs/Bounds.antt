@@ -1,14 +1,14 @@
 -- No sum of the rules passes its range: contracts, units, values, nets, claims and balances.
-use mathlib.Core.Path.{_≡_, refl, sym, _∙_, ap}
+use mathlib.Core.Path.{_≡_, _∙_, ap}
 use mathlib.Core.Bool.{Bool, true, false, cond, _&&_}
-use mathlib.Core.Logic.{_⊎_, inl, inr}
+use mathlib.Core.Logic.{inl, inr}
 use mathlib.Core.List.{List, [], _∷_}
-use Prim.Native.Nat.{ℕ, zero, suc, _+_, _-_, _*_, _/_, _≤_, _<_}
+use Prim.Native.Nat.{ℕ, zero, suc, _+_, _-_, _*_, _≤_}
 use native.Mathlib.Omega.{arith}
-use native.Mathlib.Nat.{mul-le-mul, mul-le-mul-left, mul-le-mul-right, mul-assoc, add-mul}
+use native.Mathlib.Nat.{mul-le-mul, mul-le-mul-left, mul-assoc, add-mul}
 use lib.Dec.{eqb, ltb}
-use lib.IntN.{ℤ, pos, negsuc, natAbs, subℕ, _+ℤ_, _-ℤ_, _*ℤ_, negℤ, pos-*ℤ-pos, pos-*ℤ-negsuc}
-use lib.ListN.{length, getD}
+use lib.IntN.{ℤ, pos, negsuc, natAbs, subℕ, _-ℤ_, _*ℤ_, pos-*ℤ-pos, pos-*ℤ-negsuc}
+use lib.ListN.{length}
 use Rattle.std.specs.Iters.{counting}
 use Rattle.std.specs.shelf.Lists.{sumBy, All}
 use Rattle.std.proofs.shelf.Sums.{sumBy-cons}
@@ -19,7 +19,7 @@ use Rattle.std.proofs.shelf.Signed.{ints}
 use Rattle.book.specs.declared.records.Asset.{Asset}
 use Rattle.pairing.specs.declared.line.Line.{Line}
 use Rattle.book.specs.Books.{Contents, Sound, Holder-in-range, holder, nobody, sells, volume, Asset-in-range, asset-at, no-asset, invoice, invoice-of, value, difference}
-use Rattle.pairing.specs.Lines.{Lot, lot, sumℤ, total, of-seller, of-buyer, of-asset, open-on, inside, unsettled, buyer-agent, seller-agent, value-bought, value-sold, net, debit, differences, claim-on}
+use Rattle.pairing.specs.Lines.{Lot, lot, sumℤ, total, of-seller, of-buyer, of-asset, open-on, inside, unsettled, buyer-agent, seller-agent, value-bought, value-sold, net, differences, claim-on}
 use Rattle.rules.specs.Tally.{Opening, Tally, held, all-held, claim}
 use Rattle.rules.specs.Histories.{tally-of, Opens}
 use Rattle.rules.specs.Law.{last-agent}

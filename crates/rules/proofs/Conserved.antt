@@ -7,25 +7,24 @@ use Prim.Native.Nat.{ℕ, zero, suc, _+_, _-_, _*_, _≤_, _<_}
 use native.Mathlib.Omega.{arith}
 use native.Mathlib.Nat.{mul-zero, mul-add}
 use lib.Dec.{eqb}
-use lib.ListN.{length}
 use Rattle.std.specs.shelf.Lists.{sumBy, All}
 use Rattle.std.proofs.shelf.Sums.{sumBy-cons}
 use Rattle.std.proofs.shelf.Elements.{all-weaker}
 use Rattle.std.proofs.shelf.Tests.{ne-eqb, eq-eqb, cases-eq, cases-bool}
 use Rattle.register.specs.Rules.{sum-to}
-use Rattle.book.specs.Books.{Contents, Sound, value}
+use Rattle.book.specs.Books.{Contents, value}
 use Rattle.pairing.specs.declared.line.Line.{Line}
-use Rattle.pairing.specs.Lines.{total, of-seller, of-buyer, of-asset, inside, buyer-agent, seller-agent, debit}
+use Rattle.pairing.specs.Lines.{total, of-asset, inside, buyer-agent, seller-agent, debit}
 use Rattle.rules.specs.declared.side.Side.{Side}
 use Rattle.rules.specs.declared.side.Side.the-variants.{Securities, Cash}
 use Rattle.rules.specs.Tally.{Opening, Tally, Credited, Drawn, opened, same-side, credited, issued, held, all-held, at-0, units, money}
 use Rattle.rules.specs.Histories.{Opens}
-use Rattle.rules.proofs.ByNumber.{Summing, below, parts}
+use Rattle.rules.proofs.ByNumber.{below, parts}
 use Rattle.rules.proofs.Totals.{sum-same, all-of}
 use Rattle.rules.proofs.Kept.{Kept, Sane, gave, got, spent, earned}
 use Rattle.rules.proofs.CreditsKnown.{Credits-known, known-to}
 use Rattle.rules.proofs.NeverCut.{units-add-up, money-adds-up}
-use Rattle.rules.proofs.Opened.{Room, room-for}
+use Rattle.rules.proofs.Opened.{room-for}
 use Rattle.rules.proofs.OnlyShort.{debit-known, agents-known}
 
 -- ---- sums over the accounts below n

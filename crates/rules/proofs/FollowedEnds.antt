@@ -7,9 +7,9 @@ use Prim.Native.Nat.{ℕ, zero, suc, _+_, _-_, _*_, _≤_, _<_}
 use native.Mathlib.Omega.{arith}
 use native.Mathlib.Nat.{mul-zero}
 use lib.Dec.{eqb}
-use Rattle.std.specs.shelf.Lists.{sumBy, All}
+use Rattle.std.specs.shelf.Lists.{All}
 use Rattle.std.specs.declared.option.Option.{Option}
-use Rattle.std.specs.declared.option.Option.the-variants.{Some, None}
+use Rattle.std.specs.declared.option.Option.the-variants.{None}
 use Rattle.std.proofs.shelf.Sums.{sumBy-cons}
 use Rattle.std.proofs.shelf.Elements.{all-weaker}
 use Rattle.std.proofs.shelf.Tests.{ne-eqb, eq-eqb, cases-eq}
@@ -18,18 +18,18 @@ use Rattle.register.specs.Rules as register
 use Rattle.register.specs.Rules.{Meaning, credit-refused, unless-refused, after-credit}
 use Rattle.book.specs.Books.{Contents, Sound, value}
 use Rattle.pairing.specs.declared.line.Line.{Line}
-use Rattle.pairing.specs.Lines.{total, of-seller, of-buyer, of-asset, inside, buyer-agent, seller-agent, debit}
+use Rattle.pairing.specs.Lines.{total, of-seller, of-buyer, of-asset, inside, buyer-agent, seller-agent}
 use Rattle.rules.specs.declared.side.Side.{Side}
 use Rattle.rules.specs.declared.side.Side.the-variants.{Securities, Cash}
 use Rattle.rules.specs.Law.{last-agent}
-use Rattle.rules.specs.Tally.{Opening, Tally, Credited, opened, same-side, credited, issued, held, all-held, units, money, balance, told, with-credit}
-use Rattle.rules.specs.Histories.{Opens, Same}
-use Rattle.rules.specs.Postings.{Posting, credits, Followed}
+use Rattle.rules.specs.Tally.{Opening, Tally, Credited, same-side, credited, issued, held, units, money, balance, told, with-credit}
+use Rattle.rules.specs.Histories.{Opens}
+use Rattle.rules.specs.Postings.{credits, Followed}
 use Rattle.rules.proofs.Totals.{sum-zero}
 use Rattle.rules.proofs.Kept.{Kept, Sane, gave, got, spent, earned}
 use Rattle.rules.proofs.NeverCut.{units-add-up, money-adds-up}
 use Rattle.rules.proofs.Balances.{agent-in}
-use Rattle.rules.proofs.Opened.{Room, room-for}
+use Rattle.rules.proofs.Opened.{room-for}
 use Rattle.rules.proofs.OnlyShort.{debit-known, agents-known}
 use Rattle.rules.proofs.WholePays.{over-agents, held-all}
 use Rattle.rules.proofs.Posted.{leaves, enters, run-none}

@@ -1,20 +1,17 @@
 -- The postings of a line settlement do what the tally tells.
-use mathlib.Core.Path.{_≡_, refl, sym, _∙_, ap}
+use mathlib.Core.Path.{_≡_, refl, _∙_, ap}
 use mathlib.Core.Bool.{Bool, true, false, cond, _&&_}
-use mathlib.Core.Logic.{_⊎_, inl, inr}
-use mathlib.Core.List.{List, [], _∷_, _++_}
+use mathlib.Core.List.{List, _∷_, _++_}
 use Prim.Native.Nat.{ℕ, zero, suc, _+_, _-_, _*_, _≤_, _<_}
 use native.Mathlib.Omega.{arith}
-use native.Mathlib.Nat.{mul-zero, mul-add}
-use lib.Dec.{eqb, leb, ltb}
+use native.Mathlib.Nat.{mul-add}
+use lib.Dec.{eqb}
 use lib.ListN.{length, getD, set}
-use Rattle.std.specs.shelf.Lists.{sumBy, All}
-use Rattle.std.specs.declared.option.Option.the-variants.{Some, None}
+use Rattle.std.specs.declared.option.Option.the-variants.{None}
 use Rattle.std.proofs.shelf.Sums.{sumBy-cons, sumBy-append, sumBy-set}
 use Rattle.std.proofs.shelf.Elements.{all-append, all-getD}
 use Rattle.std.proofs.shelf.Tests.{le-leb, ne-eqb, false≢true}
-use Rattle.register.specs.declared.fault.RegisterFault.the-variants.{Short}
-use Rattle.register.specs.Rules.{Meaning, transfer-refused, with-move, moved}
+use Rattle.register.specs.Rules.{transfer-refused, with-move, moved}
 use Rattle.book.specs.Books.{Contents, Sound, value}
 use Rattle.pairing.specs.declared.line.Line.{Line}
 use Rattle.pairing.specs.Lines.{total, of-seller, of-buyer, of-asset, inside, buyer-agent, seller-agent}
@@ -27,11 +24,11 @@ use Rattle.rules.proofs.Totals.{value-add}
 use Rattle.rules.proofs.Kept.{Kept, Sane, gave, got, spent, earned}
 use Rattle.rules.proofs.KeptBySettlements.{set-kept}
 use Rattle.rules.proofs.Balances.{agent-in}
-use Rattle.rules.proofs.Opened.{Room, room-for}
+use Rattle.rules.proofs.Opened.{room-for}
 use Rattle.rules.proofs.OnlyShort.{value-some}
 use Rattle.rules.proofs.Posted.{goes-out, comes-in, leaves, enters, known-move, moved-adds, run-move, Payout, payouts-run, pays-payout, pays-leave, pays-enter}
 use Rattle.rules.proofs.PaidOut.{cond-times}
-use Rattle.rules.proofs.Ledger.{run-follows, payouts-follow, house-units, house-cash, units-ledger, money-ledger, other-money}
+use Rattle.rules.proofs.Ledger.{run-follows, payouts-follow, units-ledger, money-ledger, other-money}
 
 -- The postings of the line x: its worth from the buyer's agent through account 0 to the seller's, the units to the buyer.
 abbrev pub for-line : Contents → Line → List Posting

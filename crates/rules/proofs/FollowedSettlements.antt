@@ -1,38 +1,38 @@
 -- The postings of a close, a whole settlement and a line settlement do what the tally tells.
 use mathlib.Core.Path.{_≡_, refl, sym, _∙_, ap, subst}
-use mathlib.Core.Bool.{Bool, true, false, cond, _&&_, not}
+use mathlib.Core.Bool.{Bool, true, false, cond, _&&_}
 use mathlib.Core.Logic.{_⊎_, inl, inr}
-use mathlib.Core.List.{List, [], _∷_, _++_, map}
+use mathlib.Core.List.{List, [], map}
 use Prim.Native.Nat.{ℕ, zero, suc, _+_, _-_, _*_, _≤_, _<_}
 use native.Mathlib.Omega.{arith}
 use native.Mathlib.Nat.{mul-zero, mul-add}
-use lib.Dec.{eqb, leb, ltb}
-use lib.ListN.{length, getD, set}
-use Rattle.std.specs.shelf.Lists.{sumBy, All}
+use lib.Dec.{eqb, ltb}
+use lib.ListN.{length}
+use Rattle.std.specs.shelf.Lists.{All}
 use Rattle.std.specs.Results.{isOk}
-use Rattle.std.proofs.shelf.Sums.{sumBy-cons, sumBy-append, sumBy-set}
-use Rattle.std.proofs.shelf.Elements.{all-weaker, all-append, all-getD}
-use Rattle.std.proofs.shelf.Tests.{and-parts, not-true, ltb-false, eqb-true, ne-eqb, eq-eqb, cases-eq}
+use Rattle.std.proofs.shelf.Sums.{sumBy-append}
+use Rattle.std.proofs.shelf.Elements.{all-weaker, all-append}
+use Rattle.std.proofs.shelf.Tests.{and-parts, not-true, ltb-false, eqb-true, ne-eqb}
 use Rattle.book.specs.Books.{Contents, Sound, In, value}
 use Rattle.order.specs.First.{any}
 use Rattle.pairing.specs.declared.line.Line.{Line}
-use Rattle.pairing.specs.Lines.{total, of-seller, of-buyer, of-asset, open-on, inside, buyer-agent, seller-agent, value-bought, value-sold, debit}
+use Rattle.pairing.specs.Lines.{total, of-seller, of-buyer, of-asset, open-on, inside, buyer-agent, seller-agent, value-bought, value-sold}
 use Rattle.rules.specs.declared.session.Session.the-variants.{Closed}
 use Rattle.rules.specs.declared.side.Side.{Side}
 use Rattle.rules.specs.declared.side.Side.the-variants.{Securities, Cash}
 use Rattle.rules.specs.declared.call.Call.the-variants as call
 use Rattle.rules.specs.Numbers.{session-number}
 use Rattle.rules.specs.Law.{last-agent}
-use Rattle.rules.specs.Tally.{Opening, Tally, held, all-held, units, money, told, settle, give-back, with-lines, with-closed, accepted}
+use Rattle.rules.specs.Tally.{Opening, Tally, held, units, money, told, settle, give-back, with-lines, with-closed, accepted}
 use Rattle.rules.specs.Verdict.{checks, answer, verdict, all-taken, all-drawn}
 use Rattle.rules.specs.Histories.{Opens}
-use Rattle.rules.specs.Postings.{Posting, moves, pays, net-credit, postings, Followed}
+use Rattle.rules.specs.Postings.{Posting, net-credit, postings, Followed}
 use Rattle.rules.proofs.Totals.{map-kept, map-split, map-more, map-zero, total-or}
 use Rattle.rules.proofs.Kept.{Kept, Sane, Untouched, gave, got, spent, earned}
 use Rattle.rules.proofs.KeptBySettlements.{Full, all-full, unspent, whole-spent, whole-earned}
 use Rattle.rules.proofs.Balances.{agent-in}
 use Rattle.rules.proofs.Checks.{ok-checks, not-any}
-use Rattle.rules.proofs.Opened.{Room, room-for}
+use Rattle.rules.proofs.Opened.{room-for}
 use Rattle.rules.proofs.WholePays.{over-agents, whole-pays, debits-held}
 use Rattle.rules.proofs.Posted.{goes-out, comes-in, leaves, enters, Payout}
 use Rattle.rules.proofs.PaidOut.{paid, lines-leave, lines-enter, lines-no-cash, lines-payouts, lines-no-payouts, paid-agents, agents-leave, agents-enter, agents-enter-other, agents-no-units, agents-payouts, agents-no-payouts}

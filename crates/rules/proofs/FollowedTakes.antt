@@ -1,33 +1,32 @@
 -- The postings of a take and of a draw do what the tally tells.
 use mathlib.Core.Path.{_≡_, refl, sym, _∙_, ap}
 use mathlib.Core.Bool.{Bool, true, false, cond, _&&_}
-use mathlib.Core.Logic.{_⊎_, inl, inr}
+use mathlib.Core.Logic.{inl, inr}
 use mathlib.Core.List.{List, [], _∷_}
 use Prim.Native.Nat.{ℕ, zero, suc, min, _+_, _-_, _*_, _/_, _≤_, _<_}
 use native.Mathlib.Omega.{arith}
-use native.Mathlib.Nat.{mul-zero, mul-add, div-lt-iff-lt-mul}
-use lib.Dec.{eqb, leb, ltb}
+use native.Mathlib.Nat.{mul-add, div-lt-iff-lt-mul}
+use lib.Dec.{eqb, leb}
 use Rattle.std.specs.shelf.Lists.{sumBy, All}
-use Rattle.std.specs.declared.option.Option.the-variants.{Some, None}
+use Rattle.std.specs.declared.option.Option.the-variants.{None}
 use Rattle.std.proofs.shelf.Sums.{sumBy-cons}
-use Rattle.std.proofs.shelf.Tests.{ne-eqb, eq-eqb, cases-eq, cases-lt, cases-bool, leb-true, le-leb, false≢true}
-use Rattle.register.specs.declared.fault.RegisterFault.the-variants.{Short}
-use Rattle.register.specs.Rules.{Meaning, transfer-refused, with-move}
+use Rattle.std.proofs.shelf.Tests.{ne-eqb, eq-eqb, cases-eq, cases-lt, leb-true, le-leb, false≢true}
+use Rattle.register.specs.Rules.{transfer-refused, with-move}
 use Rattle.book.specs.Books.{Contents, Sound, value}
 use Rattle.pairing.specs.declared.line.Line.{Line}
 use Rattle.pairing.specs.Lines.{total, of-seller, of-buyer, of-asset, open-on, inside, outstanding, buyer-agent, seller-agent, debit}
 use Rattle.rules.specs.declared.side.Side.{Side}
 use Rattle.rules.specs.declared.side.Side.the-variants.{Securities, Cash}
-use Rattle.rules.specs.Tally.{Opening, Tally, Drawn, in-session, held, all-held, units, money, told, takes, take-on, loaded, here, with-lines}
+use Rattle.rules.specs.Tally.{Opening, Tally, Drawn, in-session, all-held, units, money, told, takes, take-on, loaded, here, with-lines}
 use Rattle.rules.specs.Histories.{Opens}
-use Rattle.rules.specs.Postings.{Posting, moves, asked, Followed}
+use Rattle.rules.specs.Postings.{moves, asked, Followed}
 use Rattle.rules.proofs.Totals.{take-kept}
 use Rattle.rules.proofs.Kept.{Kept, Sane, gave, got, spent, earned}
 use Rattle.rules.proofs.KeptByTakes.{gave-kept}
 use Rattle.rules.proofs.OnlyShort.{take-short, draw-short, outstanding-known, debit-known, agents-known}
 use Rattle.rules.proofs.Posted.{leaves, enters, run-none, run-move}
 use Rattle.rules.proofs.PaidOut.{cond-times}
-use Rattle.rules.proofs.Ledger.{run-follows, payouts-follow, house-units, house-cash, units-ledger, money-ledger, other-money}
+use Rattle.rules.proofs.Ledger.{run-follows, payouts-follow, house-cash, units-ledger, money-ledger, other-money}
 
 -- ---- what a take adds, exactly
 

@@ -1,20 +1,19 @@
 -- What every tally keeps, whatever was called.
 use mathlib.Core.Path.{_≡_}
-use mathlib.Core.Bool.{Bool, true, false, cond}
+use mathlib.Core.Bool.{cond}
 use mathlib.Core.Logic.{_⊎_}
-use mathlib.Core.List.{List, [], _∷_, map}
+use mathlib.Core.List.{List, [], map}
 use Prim.Native.Nat.{ℕ, _+_, _-_, _*_, _≤_, _<_}
 use lib.Dec.{eqb}
 use lib.ListN.{length}
 use Rattle.std.specs.shelf.Lists.{sumBy, All}
 use Rattle.pairing.specs.declared.line.Line.{Line}
-use Rattle.rules.specs.declared.session.Session.{Session}
 use Rattle.rules.specs.declared.side.Side.{Side}
 use Rattle.rules.specs.declared.side.Side.the-variants.{Securities, Cash}
 use Rattle.book.specs.Books.{Contents, In, holder, sells, volume}
 use Rattle.pairing.specs.Lines.{Lot, lines-of, total, of-seller, of-buyer, value-bought, value-sold, debit}
 use Rattle.rules.specs.Numbers.{session-number}
-use Rattle.rules.specs.Tally.{Opening, Tally, Drawn, credited, held, counts, line, closed-on}
+use Rattle.rules.specs.Tally.{Opening, Tally, credited, held, counts, line, closed-on}
 
 -- A line at any time.
 pub record Sane (b : Contents) (l : Line) : Type 0 where

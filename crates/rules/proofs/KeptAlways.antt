@@ -1,28 +1,23 @@
 -- The invariant holds after every lived history.
-use mathlib.Core.Path.{_≡_, refl, sym, _∙_, ap, subst}
-use mathlib.Core.Bool.{Bool, true, false, cond, not, _&&_, _||_}
-use mathlib.Core.Logic.{_⊎_, inl, inr}
-use mathlib.Core.List.{List, [], _∷_, _++_, map}
-use Prim.Native.Nat.{ℕ, zero, suc, min, _+_, _-_, _*_, _/_, _≤_, _<_}
+use mathlib.Core.Path.{_≡_, refl, sym, ap}
+use mathlib.Core.Bool.{Bool, true, false, cond, _||_}
+use mathlib.Core.Logic.{inl, inr}
+use mathlib.Core.List.{List, [], _∷_}
+use Prim.Native.Nat.{ℕ, zero, suc, min, _-_, _*_, _/_, _≤_, _<_}
 use native.Mathlib.Omega.{arith}
 use native.Mathlib.Nat.{mul-div-le, mul-le-mul-left}
 use lib.Dec.{eqb, leb, ltb}
 use lib.ListN.{length, getD, set}
-use Rattle.std.specs.shelf.Lists.{sumBy, All}
 use Rattle.std.specs.declared.result.Result.the-variants.{Ok, Err}
 use Rattle.std.specs.Results.{isOk}
 use Rattle.std.proofs.shelf.Elements.{all-weaker}
-use Rattle.std.proofs.shelf.Tests.{false≢true, not-true, or-parts, or-cases, and-parts, ltb-true, ltb-false, leb-true, eqb-true, cases-lt}
+use Rattle.std.proofs.shelf.Tests.{not-true, or-cases, and-parts, ltb-true, ltb-false, leb-true, eqb-true, cases-lt}
 use Rattle.std.proofs.shelf.Lists.{getD-past}
-use Rattle.book.specs.declared.records.Holder.{Holder}
-use Rattle.pairing.specs.declared.line.Line.{Line}
 use Rattle.rules.specs.declared.session.Session.{Session}
 use Rattle.rules.specs.declared.session.Session.the-variants.{MembersNotices, ClearingNotices, Pairing, WholeDelivery, PartialDelivery, Closed}
 use Rattle.rules.specs.declared.call.Call.{Call}
 use Rattle.rules.specs.declared.call.Call.the-variants as call
-use Rattle.rules.specs.declared.answer.Answer.{Answer}
-use Rattle.book.specs.Books.{Contents, Sound, holder, row-named, value}
-use Rattle.order.specs.First.{any}
+use Rattle.book.specs.Books.{Contents, Sound, row-named, value}
 use Rattle.pairing.specs.Lines.{outstanding, open-on, inside, debit, buyer-agent}
 use Rattle.rules.specs.Numbers.{session-number}
 use Rattle.rules.specs.Tally.{Opening, Tally, in-session, held, units, money, takes, line, no-line, settle, ended, accepted, with-lines}

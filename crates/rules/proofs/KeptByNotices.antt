@@ -1,33 +1,30 @@
 -- The invariant holds after a notice, a session's end and pairing.
 use mathlib.Core.Path.{_≡_, refl, sym, _∙_, ap}
-use mathlib.Core.Bool.{Bool, true, false, cond, _&&_}
-use mathlib.Core.Logic.{_⊎_, inl, inr}
+use mathlib.Core.Bool.{Bool, true, false, cond}
+use mathlib.Core.Logic.{inl, inr}
 use mathlib.Core.List.{List, [], _∷_, _++_}
 use Prim.Native.Nat.{ℕ, zero, suc, _+_, _-_, _*_, _≤_, _<_}
 use native.Mathlib.Omega.{arith}
 use native.Mathlib.Nat.{mul-zero}
 use lib.Dec.{eqb}
 use lib.ListN.{length, getD}
-use Rattle.std.specs.shelf.Lists.{sumBy, All}
+use Rattle.std.specs.shelf.Lists.{All}
 use Rattle.std.proofs.shelf.Sums.{sumBy-cons, sumBy-append}
 use Rattle.std.proofs.shelf.Elements.{all-weaker, all-append}
-use Rattle.std.proofs.shelf.Ways.{tells}
 use Rattle.std.proofs.shelf.Tests.{ne-eqb, eq-eqb, cases-eq}
 use Rattle.book.specs.declared.records.Holder.{Holder}
 use Rattle.pairing.specs.declared.line.Line.{Line}
-use Rattle.rules.specs.declared.session.Session.{Session}
-use Rattle.rules.specs.declared.session.Session.the-variants.{MembersNotices, ClearingNotices, Pairing, WholeDelivery, PartialDelivery, Closed}
-use Rattle.rules.specs.declared.side.Side.the-variants.{Securities, Cash}
+use Rattle.rules.specs.declared.session.Session.the-variants.{ClearingNotices, Pairing, WholeDelivery, PartialDelivery}
 use Rattle.book.specs.Books.{Contents, Sound, holder, nobody, sells, volume}
 use Rattle.pairing.specs.Orders.{first-deliverable}
-use Rattle.pairing.specs.Lines.{Lot, unnotified, added-from, added, lines-of, of-seller, buyer-agent, seller-agent}
+use Rattle.pairing.specs.Lines.{Lot, unnotified, added-from, added, lines-of, of-seller, buyer-agent}
 use Rattle.rules.specs.Numbers.{session-number}
-use Rattle.rules.specs.Tally.{Opening, Tally, credited, held, with-lots, with-lines}
+use Rattle.rules.specs.Tally.{Opening, Tally, held, with-lots, with-lines}
 use Rattle.rules.proofs.Totals.{sum-zero}
 use Rattle.pairing.proofs.FirstDeliverable.{first-deliverable-in}
 use Rattle.rules.proofs.KeptBySettlements.{unspent}
 use Rattle.rules.proofs.MadeLines.{Made-line, Made-lines}
-use Rattle.rules.proofs.Kept.{Kept, Sane, Untouched, in-lots, for-sale, gave, got, spent, earned}
+use Rattle.rules.proofs.Kept.{Kept, Sane, Untouched, in-lots, for-sale, gave, spent}
 
 in-lots-cons : (x : Lot) (lots : List Lot) (k : ℕ) → in-lots (x ∷ lots) k ≡ cond (eqb (x .row) k) (x .contracts) 0 + in-lots lots k
 in-lots-cons x lots k = sumBy-cons (λ (y : Lot). cond (eqb (y .row) k) (y .contracts) 0) x lots

@@ -1,29 +1,27 @@
 -- The invariant holds after a line settlement, a whole settlement and a close.
 use mathlib.Core.Path.{_≡_, refl, sym, _∙_, ap}
-use mathlib.Core.Bool.{Bool, true, false, cond, _&&_}
+use mathlib.Core.Bool.{Bool, true, false, cond}
 use mathlib.Core.Logic.{_⊎_, inl, inr}
 use mathlib.Core.List.{List, [], _∷_, map}
-use Prim.Native.Nat.{ℕ, zero, suc, min, _+_, _-_, _*_, _≤_, _<_}
+use Prim.Native.Nat.{ℕ, zero, suc, _+_, _-_, _*_, _≤_, _<_}
 use native.Mathlib.Omega.{arith}
-use native.Mathlib.Nat.{mul-zero, mul-add, mul-le-mul-left}
+use native.Mathlib.Nat.{mul-le-mul-left}
 use lib.Dec.{eqb}
 use lib.ListN.{length, getD, set}
 use Rattle.std.specs.shelf.Lists.{sumBy, All}
-use Rattle.std.proofs.shelf.Sums.{sumBy-cons, sumBy-set}
+use Rattle.std.proofs.shelf.Sums.{sumBy-set}
 use Rattle.std.proofs.shelf.Elements.{all-getD, all-weaker, all-set, all-map}
-use Rattle.std.proofs.shelf.Ways.{tells}
 use Rattle.std.proofs.shelf.Tests.{ne-eqb, eq-eqb, eqb-true, cases-eq, cases-lt}
 use Rattle.std.proofs.shelf.Lists.{getD-past}
 use Rattle.pairing.specs.declared.line.Line.{Line}
-use Rattle.rules.specs.declared.side.Side.the-variants.{Securities, Cash}
 use Rattle.rules.specs.declared.session.Session.the-variants.{Closed}
-use Rattle.book.specs.Books.{Contents, Sound, In, value, holder}
-use Rattle.pairing.specs.Lines.{total, of-seller, of-buyer, open-on, inside, unsettled, buyer-agent, seller-agent, value-bought, value-sold, debit}
+use Rattle.book.specs.Books.{Contents, value}
+use Rattle.pairing.specs.Lines.{of-seller, of-buyer, inside, unsettled, buyer-agent, seller-agent, value-bought, value-sold, debit}
 use Rattle.rules.specs.Numbers.{session-number}
-use Rattle.rules.specs.Tally.{Opening, Tally, Drawn, credited, held, with-lines, with-closed, settle, give-back, no-line, units, money}
-use Rattle.rules.proofs.Totals.{sum-zero, sum-same, map-kept, map-up, map-down, map-same, total-or, value-add, value-zero, map-map, set-map}
+use Rattle.rules.specs.Tally.{Opening, Tally, held, with-lines, with-closed, settle, give-back, no-line, money}
+use Rattle.rules.proofs.Totals.{sum-zero, map-kept, map-up, map-down, map-same, total-or, value-add, value-zero, map-map, set-map}
 use Rattle.rules.proofs.Kept.{Kept, Sane, anew, Untouched, None-in, gave, got, spent, earned}
-use Rattle.rules.proofs.Balances.{units-at, money-at}
+use Rattle.rules.proofs.Balances.{money-at}
 
 sane-settle : (b : Contents) (l : Line) → Sane b l → Sane b (settle l)
 sane-settle b l v = record { buyer = v .buyer; seller = v .seller; asset = v .asset; some = v .some; used = let u = v .used in omega arith; within = v .within }

@@ -1,11 +1,11 @@
 -- The invariant holds after a take and after a draw.
 use mathlib.Core.Path.{_≡_, refl, sym, _∙_, ap}
-use mathlib.Core.Bool.{Bool, true, false, cond, _&&_}
-use mathlib.Core.Logic.{_⊎_, inl, inr}
-use mathlib.Core.List.{List, [], _∷_}
-use Prim.Native.Nat.{ℕ, zero, suc, min, _+_, _-_, _*_, _≤_, _<_}
+use mathlib.Core.Bool.{Bool, true, false, cond}
+use mathlib.Core.Logic.{inl, inr}
+use mathlib.Core.List.{List, _∷_}
+use Prim.Native.Nat.{ℕ, _+_, _-_, _*_, _≤_, _<_}
 use native.Mathlib.Omega.{arith}
-use native.Mathlib.Nat.{mul-zero, mul-add, mul-le-mul-left}
+use native.Mathlib.Nat.{mul-add, mul-le-mul-left}
 use lib.Dec.{eqb}
 use Rattle.std.specs.shelf.Lists.{sumBy, All}
 use Rattle.std.proofs.shelf.Sums.{sumBy-cons}
@@ -13,13 +13,13 @@ use Rattle.std.proofs.shelf.Ways.{tells}
 use Rattle.std.proofs.shelf.Elements.{all-weaker}
 use Rattle.std.proofs.shelf.Tests.{ne-eqb, eq-eqb, cases-eq}
 use Rattle.pairing.specs.declared.line.Line.{Line}
-use Rattle.rules.specs.declared.side.Side.the-variants.{Securities, Cash}
+use Rattle.rules.specs.declared.side.Side.the-variants.{Securities}
 use Rattle.book.specs.Books.{Contents, value}
-use Rattle.pairing.specs.Lines.{total, of-seller, of-buyer, open-on, buyer-agent, seller-agent, value-bought, value-sold, debit}
+use Rattle.pairing.specs.Lines.{of-seller, of-buyer, buyer-agent, seller-agent, debit}
 use Rattle.rules.specs.Numbers.{session-number}
 use Rattle.rules.specs.Tally.{Opening, Tally, Drawn, credited, held, with-lines, take-on, loaded, here, units, money}
 use Rattle.rules.proofs.Totals.{take-kept, take-adds, take-all, take-map, sum-le}
-use Rattle.rules.proofs.Kept.{Kept, Sane, anew, Untouched, gave, got, spent, earned}
+use Rattle.rules.proofs.Kept.{Kept, Sane, anew, Untouched, gave, got}
 use Rattle.rules.proofs.Balances.{units-at, money-at}
 
 gave-adds : (row a k x : ℕ) (m : ℕ) (l : Line) → cond (of-seller k x (loaded row a m l)) (l .taken + here row a m l - l .returned) 0 ≤ cond (of-seller k x l) (l .taken - l .returned) 0 + here row a m l

@@ -1,31 +1,25 @@
 -- The told balances change by what goes out and comes in: from the counts of lines before and after, for units and for cash.
 use mathlib.Core.Path.{_≡_, refl, sym, _∙_, ap}
 use mathlib.Core.Bool.{Bool, true, false, cond, _&&_}
-use mathlib.Core.Logic.{_⊎_, inl, inr}
-use mathlib.Core.List.{List, [], _∷_, map}
-use Prim.Native.Nat.{ℕ, zero, suc, _+_, _-_, _*_, _≤_, _<_}
+use mathlib.Core.Logic.{inl, inr}
+use mathlib.Core.List.{List, [], _∷_}
+use Prim.Native.Nat.{ℕ, suc, _+_, _-_, _*_, _<_}
 use native.Mathlib.Omega.{arith}
-use native.Mathlib.Nat.{mul-zero, mul-add}
+use native.Mathlib.Nat.{mul-add}
 use lib.Dec.{eqb}
-use Rattle.std.specs.shelf.Lists.{sumBy, All}
-use Rattle.std.specs.declared.option.Option.the-variants.{Some, None}
+use Rattle.std.specs.shelf.Lists.{All}
 use Rattle.std.proofs.shelf.Sums.{sumBy-cons}
-use Rattle.std.proofs.shelf.Elements.{all-weaker}
 use Rattle.std.proofs.shelf.Tests.{ne-eqb, eq-eqb, cases-eq}
-use Rattle.register.specs.Rules.{Meaning}
-use Rattle.book.specs.Books.{Contents, Sound}
-use Rattle.pairing.specs.declared.line.Line.{Line}
+use Rattle.book.specs.Books.{Sound}
 use Rattle.pairing.specs.Lines.{total, of-asset, inside}
 use Rattle.rules.specs.declared.side.Side.{Side}
 use Rattle.rules.specs.declared.side.Side.the-variants.{Securities, Cash}
-use Rattle.rules.specs.Tally.{Opening, Tally, opened, same-side, credited, issued, held, all-held, at-0, units, money, balance, told}
-use Rattle.rules.specs.Histories.{Same}
-use Rattle.rules.specs.Postings.{Posting, credits, moves, Followed, all-posted}
-use Rattle.rules.proofs.Totals.{sum-zero}
+use Rattle.rules.specs.Tally.{Opening, Tally, opened, same-side, credited, held, all-held, at-0, units, money, balance, told}
+use Rattle.rules.specs.Postings.{Posting, credits, moves, Followed}
 use Rattle.rules.proofs.Kept.{Kept, gave, got, spent, earned}
 use Rattle.rules.proofs.NeverCut.{units-add-up, money-adds-up}
 use Rattle.rules.proofs.PaidOut.{cond-times}
-use Rattle.rules.proofs.Posted.{goes-out, comes-in, leaves, enters, Run, Payout, payouts-run}
+use Rattle.rules.proofs.Posted.{comes-in, leaves, enters, Run, Payout, payouts-run}
 
 -- ---- from a run of postings to what the tally tells
 

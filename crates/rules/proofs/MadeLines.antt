@@ -1,7 +1,7 @@
 -- What pairing makes of a sound book whose sellers' contracts are all in lots.
 use Prim.Native.Nat.{ℕ, _*_, _<_, _≤_}
 use mathlib.Core.Path.{_≡_, refl}
-use mathlib.Core.Bool.{Bool, true}
+use mathlib.Core.Bool.{true}
 use mathlib.Core.List.{List}
 use lib.ListN.{length}
 use Rattle.std.specs.shelf.Lists.{sumBy, All}

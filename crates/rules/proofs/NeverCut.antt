@@ -1,18 +1,13 @@
 -- The differences in the told balances never cut: what is subtracted is at most what is added, for every account and asset.
-use mathlib.Core.Path.{_≡_, refl, sym, _∙_, ap}
-use mathlib.Core.Bool.{Bool, true, false, cond, _&&_}
-use mathlib.Core.Logic.{_⊎_, inl, inr}
-use mathlib.Core.List.{List, [], _∷_}
-use Prim.Native.Nat.{ℕ, zero, suc, _+_, _-_, _*_, _≤_, _<_}
+use mathlib.Core.Path.{_≡_, _∙_, ap}
+use mathlib.Core.Logic.{inl, inr}
+use Prim.Native.Nat.{ℕ, zero, suc, _+_, _-_, _*_, _≤_}
 use native.Mathlib.Omega.{arith}
 use native.Mathlib.Nat.{mul-zero, mul-le-mul-left}
-use lib.Dec.{eqb}
-use Rattle.std.specs.shelf.Lists.{sumBy, All}
 use Rattle.std.proofs.shelf.Tests.{ne-eqb}
-use Rattle.pairing.specs.declared.line.Line.{Line}
 use Rattle.rules.specs.declared.side.Side.the-variants.{Securities, Cash}
-use Rattle.book.specs.Books.{Contents, Sound}
-use Rattle.pairing.specs.Lines.{total, of-asset, inside, value-bought, debit}
+use Rattle.book.specs.Books.{Sound}
+use Rattle.pairing.specs.Lines.{total, of-asset, inside}
 use Rattle.rules.specs.Tally.{Opening, Tally, credited, held, all-held, at-0, units, money}
 use Rattle.rules.proofs.Kept.{Kept, gave, got, spent, earned}
 use Rattle.rules.proofs.Balances.{row-0, agent-0}

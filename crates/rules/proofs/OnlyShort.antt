@@ -1,37 +1,34 @@
 -- A due take, draw or line settlement meets no other refusal of a register than short, and that where it is not covered.
-use mathlib.Core.Path.{_≡_, refl, sym, _∙_, ap, subst}
-use mathlib.Core.Bool.{Bool, true, false, cond, _&&_, _||_}
-use mathlib.Core.Logic.{_⊎_, inl, inr}
-use mathlib.Core.List.{List, [], _∷_}
-use Prim.Native.Nat.{ℕ, zero, suc, min, _+_, _-_, _*_, _/_, _≤_, _<_}
+use mathlib.Core.Path.{_≡_, refl, _∙_, ap, subst}
+use mathlib.Core.Bool.{Bool, true, false, cond}
+use mathlib.Core.Logic.{inl, inr}
+use mathlib.Core.List.{List}
+use Prim.Native.Nat.{ℕ, zero, suc, min, _-_, _*_, _/_, _≤_, _<_}
 use native.Mathlib.Omega.{arith}
 use native.Mathlib.Nat.{mul-div-le, mul-le-mul, mul-le-mul-left}
 use lib.Dec.{eqb, leb, ltb}
 use lib.ListN.{length, getD}
-use Rattle.std.specs.shelf.Lists.{sumBy, All}
+use Rattle.std.specs.shelf.Lists.{All}
 use Rattle.std.specs.declared.option.Option.the-variants.{Some, None}
 use Rattle.std.proofs.shelf.Elements.{all-weaker, all-getD}
 use Rattle.std.proofs.shelf.Lists.{getD-past}
 use Rattle.std.proofs.shelf.Tests.{and-parts, ltb-true, eqb-true, eq-eqb, ne-eqb, cases-lt, cases-eq, le-leb}
 use Rattle.register.specs.declared.fault.RegisterFault.the-variants.{Short}
 use Rattle.register.specs.Rules.{transfer-refused}
-use Rattle.book.specs.Books.{Contents, Sound, Asset-in-range, In, holder, row-named, asset-at, no-asset, invoice, value}
+use Rattle.book.specs.Books.{Contents, Sound, Asset-in-range, In, row-named, asset-at, no-asset, invoice, value}
 use Rattle.pairing.specs.declared.line.Line.{Line}
-use Rattle.pairing.specs.Lines.{total, of-seller, open-on, inside, outstanding, buyer-agent, value-bought, debit}
-use Rattle.rules.specs.declared.side.Side.{Side}
+use Rattle.pairing.specs.Lines.{of-seller, open-on, inside, outstanding, buyer-agent, debit}
 use Rattle.rules.specs.declared.side.Side.the-variants.{Securities, Cash}
-use Rattle.rules.specs.declared.call.Call.{Call}
 use Rattle.rules.specs.declared.call.Call.the-variants as call
 use Rattle.rules.specs.Tally.{Opening, Tally, in-session, held, units, money, told, line, no-line}
-use Rattle.rules.specs.Verdict.{in-its-session, something-due, due, covers}
-use Rattle.rules.specs.Histories.{Entry, tally-of, Lived, Opens}
-use Rattle.rules.specs.Law.{paying-side}
-use Rattle.rules.specs.Postings.{First-refused, Only-short, asked, postings}
+use Rattle.rules.specs.Verdict.{in-its-session, something-due, due}
+use Rattle.rules.specs.Histories.{tally-of, Opens}
+use Rattle.rules.specs.Postings.{Only-short, asked}
 use Rattle.rules.proofs.Totals.{total-or}
 use Rattle.rules.proofs.Kept.{Kept, Sane}
 use Rattle.rules.proofs.KeptAlways.{kept}
 use Rattle.rules.proofs.Balances.{agent-in}
-use Rattle.rules.proofs.Opened.{Room, room-for}
+use Rattle.rules.proofs.Opened.{room-for}
 use Rattle.rules.proofs.Posted.{known-move}
 
 -- ---- amounts above 0

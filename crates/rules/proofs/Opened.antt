@@ -1,13 +1,13 @@
 -- What an opening has that was not refused: room for the book in both registers, and a house that holds nothing.
 use mathlib.Core.Path.{_≡_, refl}
-use mathlib.Core.Bool.{Bool, true, false, not, _&&_, cond}
+use mathlib.Core.Bool.{Bool, true, false, not}
 use mathlib.Core.List.{List, [], _∷_}
 use Prim.Native.Nat.{ℕ, _*_, _≤_, _<_}
 use native.Mathlib.Omega.{arith}
 use lib.Dec.{eqb, leb, ltb}
 use lib.ListN.{length}
 use Rattle.std.specs.shelf.Lists.{All}
-use Rattle.std.specs.declared.option.Option.the-variants.{Some, None}
+use Rattle.std.specs.declared.option.Option.the-variants.{None}
 use Rattle.std.proofs.shelf.Tests.{and-parts, not-true, leb-true, leb-false, ltb-true}
 use Rattle.std.proofs.shelf.Ways.{decides-below-and, decides-eqb}
 use Rattle.register.specs.Rules.{Meaning}

@@ -3,11 +3,10 @@ use mathlib.Core.Path.{_≡_, refl, sym, _∙_, ap}
 use mathlib.Core.Bool.{Bool, true, false, cond, _&&_}
 use mathlib.Core.Logic.{_⊎_, inl, inr}
 use mathlib.Core.List.{List, [], _∷_}
-use Prim.Native.Nat.{ℕ, zero, suc, _+_, _-_, _*_, _≤_, _<_}
+use Prim.Native.Nat.{ℕ, suc, _+_, _-_, _*_, _≤_, _<_}
 use native.Mathlib.Omega.{arith}
 use native.Mathlib.Nat.{mul-zero, mul-add}
 use lib.Dec.{eqb}
-use lib.ListN.{length}
 use Rattle.std.specs.Iters.{counting}
 use Rattle.std.specs.shelf.Lists.{sumBy, All}
 use Rattle.std.proofs.shelf.Sums.{sumBy-cons}
@@ -16,11 +15,9 @@ use Rattle.std.proofs.shelf.Tests.{ne-eqb, eq-eqb, cases-eq, false≢true}
 use Rattle.pairing.specs.declared.line.Line.{Line}
 use Rattle.pairing.specs.Lines.{total, of-asset, inside}
 use Rattle.rules.specs.declared.side.Side.the-variants.{Securities, Cash}
-use Rattle.rules.specs.Tally.{same-side}
 use Rattle.rules.specs.Law.{last-agent}
-use Rattle.rules.specs.Postings.{Posting, moves, pays, for-each, for-agents}
-use Rattle.rules.proofs.ByNumber.{Summing}
-use Rattle.rules.proofs.Totals.{sum-zero, sum-same, all-of}
+use Rattle.rules.specs.Postings.{Posting, pays, for-each, for-agents}
+use Rattle.rules.proofs.Totals.{sum-zero, all-of}
 use Rattle.rules.proofs.WholePays.{over-agents, agents}
 use Rattle.rules.proofs.Posted.{goes-out, comes-in, leaves, enters, Payout, pays-payout, pays-leave, pays-enter, each-all, each-sum}
 

@@ -1,11 +1,11 @@
 -- The postings of every accepted call are accepted, and do what the tally tells.
-use mathlib.Core.Path.{_≡_, refl, sym, _∙_, ap}
-use mathlib.Core.Bool.{Bool, true, false, cond, _&&_, _||_}
-use mathlib.Core.List.{List, [], _∷_}
-use mathlib.Core.Logic.{_⊎_, inl, inr}
-use Prim.Native.Nat.{ℕ, zero, suc, _+_, _-_, _*_, _≤_, _<_}
+use mathlib.Core.Path.{_≡_, refl, ap}
+use mathlib.Core.Bool.{true, false, _||_}
+use mathlib.Core.List.{[]}
+use mathlib.Core.Logic.{inl, inr}
+use Prim.Native.Nat.{ℕ, zero, suc, _-_, _≤_, _<_}
 use native.Mathlib.Omega.{arith}
-use lib.Dec.{eqb, leb, ltb}
+use lib.Dec.{eqb, ltb}
 use lib.ListN.{length, getD, set}
 use Rattle.std.specs.shelf.Lists.{All}
 use Rattle.std.specs.Results.{isOk}
@@ -14,7 +14,6 @@ use Rattle.std.proofs.shelf.Lists.{getD-past}
 use Rattle.std.proofs.shelf.Tests.{and-parts, eqb-true, ltb-true, leb-true, false≢true, cases-lt}
 use Rattle.register.specs.Rules.{credit-refused}
 use Rattle.book.specs.Books.{Contents, row-named, value}
-use Rattle.pairing.specs.declared.line.Line.{Line}
 use Rattle.pairing.specs.Lines.{lines-of, inside, outstanding, buyer-agent, debit}
 use Rattle.rules.specs.declared.session.Session.{Session}
 use Rattle.rules.specs.declared.session.Session.the-variants.{MembersNotices, ClearingNotices, Pairing, WholeDelivery, PartialDelivery, Closed}
@@ -23,7 +22,7 @@ use Rattle.rules.specs.declared.side.Side.the-variants.{Securities, Cash}
 use Rattle.rules.specs.declared.call.Call.{Call}
 use Rattle.rules.specs.declared.call.Call.the-variants as call
 use Rattle.rules.specs.Numbers.{session-number}
-use Rattle.rules.specs.Tally.{Opening, Tally, in-session, held, units, money, told, takes, line, no-line, settle, with-lines, ended, accepted}
+use Rattle.rules.specs.Tally.{Opening, Tally, in-session, held, units, money, told, line, no-line, settle, with-lines, ended, accepted}
 use Rattle.rules.specs.Verdict.{checks, answer, verdict}
 use Rattle.rules.specs.Histories.{tally-of, Opens}
 use Rattle.rules.specs.Postings.{postings, Followed, Postings-follow}

@@ -1,9 +1,8 @@
 -- What pairing makes of lines stays, whatever is taken, settled or returned of them.
 use mathlib.Core.Path.{_≡_, refl, sym, _∙_, ap, subst}
-use mathlib.Core.Bool.{Bool, true, false, cond, _&&_, _||_}
+use mathlib.Core.Bool.{Bool, true, cond, _&&_, _||_}
 use mathlib.Core.List.{List, [], _∷_, map}
-use Prim.Native.Nat.{ℕ, _+_, _≤_, _<_}
-use native.Mathlib.Omega.{arith}
+use Prim.Native.Nat.{ℕ, _+_}
 use lib.Dec.{eqb}
 use lib.IntN.{subℕ}
 use lib.ListN.{length}
@@ -15,7 +14,7 @@ use Rattle.pairing.specs.declared.stage.Stage.{Stage}
 use Rattle.book.specs.Books.{Contents, holder, buys, sells}
 use Rattle.order.specs.First.{any}
 use Rattle.pairing.specs.Lines.{total, of-seller}
-use Rattle.pairing.specs.Laws.{Pairing, Well-paired, position-on, within, different-pairs, group-of}
+use Rattle.pairing.specs.Laws.{Well-paired, position-on, within, different-pairs, group-of}
 use Rattle.rules.proofs.Totals.{map-kept}
 use Rattle.rules.proofs.Kept.{anew}
 

@@ -1,15 +1,15 @@
 -- The law holds, wherever an expiry stands.
-use mathlib.Core.Path.{_≡_, sym, _∙_}
+use mathlib.Core.Path.{_∙_}
 use mathlib.Core.List.{List}
-use Prim.Native.Nat.{ℕ, _≤_}
+use Prim.Native.Nat.{_≤_}
 use native.Mathlib.Omega.{arith}
 use Rattle.book.specs.Books.{Contents, Sound}
 use Rattle.pairing.specs.declared.line.Line.{Line}
 use Rattle.pairing.specs.Lines.{lines-of}
 use Rattle.rules.specs.Numbers.{session-number}
 use Rattle.rules.specs.Tally.{Opening, Tally}
-use Rattle.rules.specs.Histories.{Entry, tally-of, Seen, Stands}
-use Rattle.rules.specs.Law.{Paired, Law, Law-holds}
+use Rattle.rules.specs.Histories.{tally-of}
+use Rattle.rules.specs.Law.{Paired, Law-holds}
 use Rattle.rules.proofs.Kept.{Kept}
 use Rattle.rules.proofs.KeptAlways.{kept, full-lots}
 use Rattle.rules.proofs.MadeLines.{made-lines}

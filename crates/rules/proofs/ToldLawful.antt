@@ -1,28 +1,27 @@
 -- Registers that were lawful at the opening are told as lawful ones after every history.
-use mathlib.Core.Path.{_≡_, refl, sym, _∙_, ap}
+use mathlib.Core.Path.{_≡_, refl, _∙_, ap}
 use mathlib.Core.Bool.{Bool, true, false, cond, _&&_}
 use mathlib.Core.Logic.{_⊎_, inl, inr}
-use mathlib.Core.List.{List, [], _∷_}
-use Prim.Native.Nat.{ℕ, zero, suc, _+_, _-_, _*_, _≤_, _<_}
+use mathlib.Core.List.{List}
+use Prim.Native.Nat.{ℕ, _+_, _-_, _*_, _≤_, _<_}
 use native.Mathlib.Omega.{arith}
 use native.Mathlib.Nat.{mul-zero}
 use lib.Dec.{eqb}
-use lib.ListN.{length}
-use Rattle.std.specs.shelf.Lists.{sumBy, All}
+use Rattle.std.specs.shelf.Lists.{All}
 use Rattle.std.proofs.shelf.Elements.{all-weaker}
 use Rattle.std.proofs.shelf.Tests.{ne-eqb, cases-bool}
-use Rattle.register.specs.Rules.{Meaning, Lawful}
+use Rattle.register.specs.Rules.{Lawful}
 use Rattle.book.specs.Books.{Contents, value}
 use Rattle.pairing.specs.declared.line.Line.{Line}
 use Rattle.pairing.specs.Lines.{total, of-buyer, of-asset, inside, seller-agent}
 use Rattle.rules.specs.declared.side.Side.{Side}
 use Rattle.rules.specs.declared.side.Side.the-variants.{Securities, Cash}
-use Rattle.rules.specs.Tally.{Opening, Tally, Credited, opened, same-side, credited, issued, held, all-held, at-0, units, money, told}
+use Rattle.rules.specs.Tally.{Opening, Tally, Credited, opened, same-side, credited, issued, all-held, at-0, units, money, told}
 use Rattle.rules.specs.Histories.{Opens}
 use Rattle.rules.proofs.Totals.{sum-zero}
-use Rattle.rules.proofs.Kept.{Kept, Sane, gave, got, earned}
+use Rattle.rules.proofs.Kept.{Kept, Sane, got, earned}
 use Rattle.rules.proofs.CreditsKnown.{Credits-known, known-to}
-use Rattle.rules.proofs.Opened.{Room, room-for}
+use Rattle.rules.proofs.Opened.{room-for}
 use Rattle.rules.proofs.Conserved.{units-sum, money-sum}
 
 -- ---- no credits to what is not known

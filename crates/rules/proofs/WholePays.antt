@@ -1,20 +1,19 @@
 -- In a whole settlement the draws held are what the nets above 0 are paid with, to the centavo.
-use mathlib.Core.Path.{_≡_, refl, sym, _∙_, ap}
-use mathlib.Core.Bool.{Bool, true, false, cond, _&&_}
+use mathlib.Core.Path.{_≡_, sym, _∙_}
+use mathlib.Core.Bool.{true}
 use mathlib.Core.Logic.{_⊎_, inl, inr}
-use mathlib.Core.List.{List, [], _∷_}
-use Prim.Native.Nat.{ℕ, zero, suc, _+_, _-_, _*_, _≤_, _<_}
+use mathlib.Core.List.{List}
+use Prim.Native.Nat.{ℕ, _+_, _-_, _≤_, _<_}
 use native.Mathlib.Omega.{arith}
 use lib.Dec.{eqb, ltb}
-use lib.ListN.{length}
 use Rattle.std.specs.shelf.Lists.{sumBy, All}
 use Rattle.std.specs.Results.{isOk}
 use Rattle.std.specs.Iters.{counting}
 use Rattle.std.proofs.shelf.Elements.{all-weaker}
-use Rattle.std.proofs.shelf.Tests.{ne-eqb, eq-eqb, eqb-true, cases-eq, and-parts, not-true, ltb-false}
+use Rattle.std.proofs.shelf.Tests.{eqb-true, and-parts, not-true, ltb-false}
 use Rattle.pairing.specs.declared.line.Line.{Line}
 use Rattle.rules.specs.declared.call.Call.the-variants as call
-use Rattle.book.specs.Books.{Contents, Sound, In, holder, value}
+use Rattle.book.specs.Books.{Contents, Sound, In, value}
 use Rattle.pairing.specs.Lines.{buyer-agent, seller-agent, value-bought, value-sold, debit}
 use Rattle.rules.specs.Tally.{Opening, Tally, Drawn, held, all-held}
 use Rattle.order.specs.First.{any}

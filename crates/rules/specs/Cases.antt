@@ -1,5 +1,4 @@
 -- Worked cases: what the rules give for books and calls that can be worked out by hand.
-use Prim.Native.Nat.{ℕ}
 use mathlib.Core.Path.{_≡_}
 use mathlib.Core.List.{List, [], _∷_}
 use lib.IntN.{pos, negsuc}

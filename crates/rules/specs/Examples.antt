@@ -1,7 +1,7 @@
 -- Registers of zeros to open a book with, and short words for the answers to calls.
 use Prim.Native.Nat.{ℕ, _*_}
-use mathlib.Core.Bool.{Bool, cond, _&&_}
-use mathlib.Core.List.{List, [], _∷_, map}
+use mathlib.Core.Bool.{cond, _&&_}
+use mathlib.Core.List.{List, map}
 use lib.Dec.{eqb}
 use lib.ListN.{replicate, length}
 use Rattle.std.specs.declared.result.Result.{Result}

@@ -1,9 +1,9 @@
 -- What an accepted call asks of the registers, move by move, and what a due call may be refused for.
 use Prim.Native.Nat.{ℕ, _*_, _-_}
 use mathlib.Core.Path.{_≡_}
-use mathlib.Core.Bool.{Bool, true, cond}
+use mathlib.Core.Bool.{true, cond}
 use mathlib.Core.List.{List, [], _∷_, _++_}
-use lib.Dec.{eqb, ltb}
+use lib.Dec.{eqb}
 use Rattle.std.specs.Iters.{counting}
 use Rattle.std.specs.Results.{isOk}
 use Rattle.std.specs.declared.option.Option.{Option}
@@ -13,12 +13,12 @@ use Rattle.register.specs.declared.fault.RegisterFault.the-variants.{Short}
 use Rattle.register.specs.Rules.{Meaning, credit-refused, transfer-refused, after-credit, after-transfer}
 use Rattle.book.specs.Books.{row-named, value}
 use Rattle.pairing.specs.declared.line.Line.{Line}
-use Rattle.pairing.specs.Lines.{inside, outstanding, buyer-agent, seller-agent, value-bought, value-sold, debit}
+use Rattle.pairing.specs.Lines.{inside, buyer-agent, seller-agent, value-bought, value-sold, debit}
 use Rattle.rules.specs.declared.side.Side.{Side}
 use Rattle.rules.specs.declared.side.Side.the-variants.{Securities, Cash}
 use Rattle.rules.specs.declared.call.Call.{Call}
 use Rattle.rules.specs.declared.call.Call.the-variants as call
-use Rattle.rules.specs.Tally.{Opening, Tally, in-session, same-side, held, told, takes, line, accepted}
+use Rattle.rules.specs.Tally.{Opening, Tally, same-side, held, told, takes, line, accepted}
 use Rattle.rules.specs.Verdict.{due, covers, verdict}
 use Rattle.rules.specs.Histories.{Entry, tally-of, Lived, Opens, Same}
 use Rattle.rules.specs.Law.{paying-side, last-agent}

@@ -1,13 +1,16 @@
 -- What the law supposes can be had: books that open, expiries that stand, whatever is called.
-use Prim.Native.Nat.{ℕ}
-use mathlib.Core.List.{List, []}
+use mathlib.Core.Path.{_≡_}
+use mathlib.Core.List.{List, [], _∷_}
 use lib.IntN.{pos}
+use Rattle.std.specs.declared.result.Result.{Result}
 use Rattle.pairing.specs.Lines.{lot, net}
 use Rattle.rules.specs.declared.session.Session.the-variants.{MembersNotices}
 use Rattle.rules.specs.declared.side.Side.the-variants.{Securities, Cash}
 use Rattle.rules.specs.declared.call.Call.{Call}
-use Rattle.rules.specs.Tally.{Opening, held, told, claim}
-use Rattle.rules.specs.Histories.{Entry, tally-of, Seen, over, Opens, Stands, history}
+use Rattle.rules.specs.declared.answer.Answer.{Answer}
+use Rattle.rules.specs.declared.fault.Fault.{Fault}
+use Rattle.rules.specs.Tally.{Opening, empty, held, told, claim}
+use Rattle.rules.specs.Histories.{Entry, tally-of, Seen, over, Opens, Stands, day, history}
 use Rattle.pairing.specs.Cases.{example}
 use Rattle.rules.specs.Examples.{opening}
 
@@ -41,3 +44,13 @@ Opened-stands = (o : Opening) → Opens o → Stands o [] (at-first o)
 -- Whatever calls are made of it, there is a history of the rules' own answers to them after which it stands.
 abbrev pub Any-calls-stand : Type 0
 Any-calls-stand = (o : Opening) → Opens o → (cs : List Call) → Stands o (history o [] cs) (as-told o (history o [] cs))
+
+-- Calls with their answers, put upon a history.
+abbrev pub entered : List Call → List (Result Answer Fault) → List Entry → List Entry
+entered [] rs h = h
+entered (c ∷ cs) [] h = h
+entered (c ∷ cs) (r ∷ rs) h = entered cs rs ((c, r) ∷ h)
+
+-- A day that is computed forward gives the answers and the tally of that history.
+abbrev pub Days-are-histories : Type 0
+Days-are-histories = (o : Opening) (cs : List Call) → (entered cs (day o empty cs .0) [] ≡ history o [] cs) × (day o empty cs .1 ≡ tally-of o (history o [] cs))

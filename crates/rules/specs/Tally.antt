@@ -1,9 +1,9 @@
 -- The tally: kept from the book, the opening balances and the calls alone.
 use Prim.Native.Nat.{ℕ, _+_, _-_, _*_, _/_, min}
-use mathlib.Core.Bool.{Bool, true, false, _&&_, _||_, cond}
+use mathlib.Core.Bool.{Bool, true, false, _&&_, cond}
 use mathlib.Core.List.{List, [], _∷_, _++_, map}
 use lib.Dec.{eqb}
-use lib.IntN.{ℤ, pos}
+use lib.IntN.{ℤ}
 use lib.ListN.{getD, set}
 use Rattle.std.specs.shelf.Lists.{sumBy}
 use Rattle.pairing.specs.declared.line.Line.{Line}

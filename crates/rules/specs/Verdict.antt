@@ -4,13 +4,11 @@ use mathlib.Core.Bool.{Bool, true, false, _&&_, _||_, not, cond}
 use mathlib.Core.List.{List, [], _∷_, _++_, map}
 use lib.Dec.{eqb, leb, ltb}
 use lib.ListN.{length}
-use Rattle.std.specs.shelf.Lists.{sumBy}
 use Rattle.std.specs.declared.option.Option.{Option}
 use Rattle.std.specs.declared.option.Option.the-variants.{Some, None}
 use Rattle.std.specs.declared.result.Result.{Result}
 use Rattle.std.specs.declared.result.Result.the-variants.{Ok, Err}
 use Rattle.book.specs.declared.records.Holder.{Holder}
-use Rattle.pairing.specs.declared.line.Line.{Line}
 use Rattle.rules.specs.declared.side.Side.{Side}
 use Rattle.rules.specs.declared.side.Side.the-variants.{Securities, Cash}
 use Rattle.rules.specs.declared.speaker.Speaker.{Speaker}
@@ -20,7 +18,7 @@ use Rattle.rules.specs.declared.call.Call.the-variants as call
 use Rattle.rules.specs.declared.answer.Answer.{Answer}
 use Rattle.rules.specs.declared.answer.Answer.the-variants.{Done, Lines, Contracts}
 use Rattle.register.specs.declared.fault.RegisterFault.{RegisterFault}
-use Rattle.register.specs.declared.fault.RegisterFault.the-variants.{UnknownAccount, UnknownAsset, SameAccount, ZeroAmount, Short, OverIssue}
+use Rattle.register.specs.declared.fault.RegisterFault.the-variants.{Short}
 use Rattle.rules.specs.declared.fault.Part.{Part}
 use Rattle.rules.specs.declared.fault.Part.the-variants as part
 use Rattle.rules.specs.declared.fault.Cause.{Cause}

@@ -2,7 +2,7 @@
 ghost use Rattle.rules.specs.Law.{Law-holds};
 ghost use Rattle.rules.specs.Postings.{Only-short, Postings-follow};
 ghost use Rattle.rules.specs.Ranges.{Sums-in-range};
-ghost use Rattle.rules.specs.Premises.{Example-opens, Opened-stands, Any-calls-stand};
+ghost use Rattle.rules.specs.Premises.{Example-opens, Opened-stands, Any-calls-stand, Days-are-histories};
 ghost use Rattle.rules.specs.Cases.{Worked-cases};
 pub mod session;
 pub mod side;
@@ -30,6 +30,7 @@ pub fn law_is_not_hollow() -> u8
     ensures the_example_opens { λ _. ⌜ Example-opens ⌝ }
     ensures what_was_opened_stands { λ _. ⌜ Opened-stands ⌝ }
     ensures stands_after_any_calls { λ _. ⌜ Any-calls-stand ⌝ }
+    ensures computed_days_are_histories { λ _. ⌜ Days-are-histories ⌝ }
 {
     0
 }
