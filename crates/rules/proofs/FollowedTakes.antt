@@ -15,6 +15,7 @@ use Rattle.register.specs.Rules.{transfer-refused, with-move}
 use Rattle.book.specs.Books.{Contents, Sound, value}
 use Rattle.pairing.specs.declared.line.Line.{Line}
 use Rattle.pairing.specs.Lines.{total, of-seller, of-buyer, of-asset, open-on, inside, outstanding, buyer-agent, seller-agent, debit}
+use Rattle.rules.specs.declared.session.Session.the-variants.{PartialDelivery}
 use Rattle.rules.specs.declared.side.Side.{Side}
 use Rattle.rules.specs.declared.side.Side.the-variants.{Securities, Cash}
 use Rattle.rules.specs.Tally.{Opening, Tally, Drawn, in-session, all-held, units, money, told, takes, take-on, loaded, here, with-lines}
@@ -134,23 +135,23 @@ some-taken true m due u p q e =
   (omega (arith, one, q), omega arith)
 
 taken-covered : (o : Opening) (t : Tally) (row a : ℕ) → Opens o → Kept o t → 0 < outstanding (t .lines) row a
-  → leb (o .book .terms .multiplier * cond (in-session 5 t) 1 (outstanding (t .lines) row a)) (units o t row a) ≡ true
+  → leb (o .book .terms .multiplier * cond (in-session PartialDelivery t) 1 (outstanding (t .lines) row a)) (units o t row a) ≡ true
   → (transfer-refused (told o t Securities) row 0 a (o .book .terms .multiplier * takes o t row a) ≡ None) × (takes o t row a ≤ outstanding (t .lines) row a)
 taken-covered o t row a p s some cov =
   let m : ℕ = o .book .terms .multiplier in
-  let w = some-taken (in-session 5 t) m (outstanding (t .lines) row a) (units o t row a) (p .book .multiplier .0) some cov in
+  let w = some-taken (in-session PartialDelivery t) m (outstanding (t .lines) row a) (units o t row a) (p .book .multiplier .0) some cov in
   let w0 = w .0 in
   let e : asked o t row a ≡ takes o t row a = rw (ne-eqb (takes o t row a) 0 (λ z. omega (arith, z, w0))) refl in
   ( ap (λ z. transfer-refused (told o t Securities) row 0 a (m * z)) (sym e) ∙ (take-short o t row a p s some ∙ rw cov refl)
   , w .1 )
 
 pub take-follows : (o : Opening) (t : Tally) (row a : ℕ) → Opens o → Kept o t → Kept o (with-lines t (t .session) (take-on row a (takes o t row a) (t .lines)) (t .draws))
-  → 0 < outstanding (t .lines) row a → leb (o .book .terms .multiplier * cond (in-session 5 t) 1 (outstanding (t .lines) row a)) (units o t row a) ≡ true
+  → 0 < outstanding (t .lines) row a → leb (o .book .terms .multiplier * cond (in-session PartialDelivery t) 1 (outstanding (t .lines) row a)) (units o t row a) ≡ true
   → o .book .terms .multiplier * takes o t row a ≤ units o t row a → (side : Side)
   → Followed side (told o t side) (moves Securities row 0 a (o .book .terms .multiplier * asked o t row a) ∷ []) (told o (with-lines t (t .session) (take-on row a (takes o t row a) (t .lines)) (t .draws)) side)
 take-follows o t row a p s v some cov le side =
   let m : ℕ = o .book .terms .multiplier in
-  let w = some-taken (in-session 5 t) m (outstanding (t .lines) row a) (units o t row a) (p .book .multiplier .0) some cov in
+  let w = some-taken (in-session PartialDelivery t) m (outstanding (t .lines) row a) (units o t row a) (p .book .multiplier .0) some cov in
   let w0 = w .0 in
   let e : takes o t row a ≡ asked o t row a = sym (rw (ne-eqb (takes o t row a) 0 (λ z. omega (arith, z, w0))) refl) in
   rw (sym e) (go side)

@@ -88,7 +88,7 @@ kept-call o t (call.Take member number asset) d e k =
   let row : ℕ = row-named (o .book) member number in
   let w = in-4-or-5 (session-number (t .session)) (q .0) in
   kept-take o t row asset (takes o t row asset) (w .0) (w .1)
-    (take-covered (in-session 5 t) (o .book .terms .multiplier) (outstanding (t .lines) row asset) (units o t row asset) (q .1 .1 .0)) k
+    (take-covered (in-session PartialDelivery t) (o .book .terms .multiplier) (outstanding (t .lines) row asset) (units o t row asset) (q .1 .1 .0)) k
 kept-call o t (call.Draw agent) d e k =
   let q = ok-checks (checks o t (call.Draw agent)) (call.Draw agent) (answer o t (call.Draw agent)) e in
   let w = and-parts (ltb 0 (debit (o .book) (t .lines) agent)) (eqb (held t agent) 0) (q .1 .0) in

@@ -18,6 +18,7 @@ use Rattle.register.specs.Rules.{transfer-refused}
 use Rattle.book.specs.Books.{Contents, Sound, Asset-in-range, In, row-named, asset-at, no-asset, invoice, value}
 use Rattle.pairing.specs.declared.line.Line.{Line}
 use Rattle.pairing.specs.Lines.{of-seller, open-on, inside, outstanding, buyer-agent, debit}
+use Rattle.rules.specs.declared.session.Session.the-variants.{PartialDelivery}
 use Rattle.rules.specs.declared.side.Side.the-variants.{Securities, Cash}
 use Rattle.rules.specs.declared.call.Call.the-variants as call
 use Rattle.rules.specs.Tally.{Opening, Tally, in-session, held, units, money, told, line, no-line}
@@ -97,7 +98,7 @@ some-asked (suc n) = rw (ne-eqb (suc n) 0 (λ z. omega arith)) (omega arith)
 
 pub take-short : (o : Opening) (t : Tally) (row a : ℕ) → Opens o → Kept o t → 0 < outstanding (t .lines) row a
   → transfer-refused (told o t Securities) row 0 a (o .book .terms .multiplier * asked o t row a)
-    ≡ cond (leb (o .book .terms .multiplier * cond (in-session 5 t) 1 (outstanding (t .lines) row a)) (units o t row a)) None (Some Short)
+    ≡ cond (leb (o .book .terms .multiplier * cond (in-session PartialDelivery t) 1 (outstanding (t .lines) row a)) (units o t row a)) None (Some Short)
 take-short o t row a p k some =
   let b : Contents = o .book in
   let m : ℕ = b .terms .multiplier in
@@ -107,8 +108,8 @@ take-short o t row a p k some =
   let low = w .0 .0 in let high = w .0 .1 in let in-book = w .1 in
   let rows = r .rows in let assets = r .assets in
   known-move (told o t Securities) row 0 a (m * asked o t row a) (omega (arith, high, rows)) (omega (arith, rows)) (omega (arith, in-book, assets)) (λ z. omega (arith, z, low))
-    (product-some m (asked o t row a) (p .book .multiplier .0) (some-asked (cond (in-session 5 t) (min due (units o t row a / m)) due)))
-  ∙ ap (λ (c : Bool). cond c None (Some Short)) (asked-covered (in-session 5 t) m due (units o t row a) (p .book .multiplier .0) some)
+    (product-some m (asked o t row a) (p .book .multiplier .0) (some-asked (cond (in-session PartialDelivery t) (min due (units o t row a / m)) due)))
+  ∙ ap (λ (c : Bool). cond c None (Some Short)) (asked-covered (in-session PartialDelivery t) m due (units o t row a) (p .book .multiplier .0) some)
 
 pub agents-known : (o : Opening) (t : Tally) → Opens o → Kept o t → All (λ l. (0 < buyer-agent (o .book) l) × (buyer-agent (o .book) l < o .cash .accounts)) (t .lines)
 agents-known o t p k = all-weaker (Sane (o .book)) (λ l. (0 < buyer-agent (o .book) l) × (buyer-agent (o .book) l < o .cash .accounts))

@@ -100,7 +100,7 @@ follows o t (call.Take member number asset) p k e side =
   let q = ok-checks (checks o t (call.Take member number asset)) (call.Take member number asset) (answer o t (call.Take member number asset)) e in
   let row : ℕ = row-named (o .book) member number in
   take-follows o t row asset p k (kept-call o t (call.Take member number asset) (p .book) e k) (ltb-true 0 (outstanding (t .lines) row asset) (q .1 .0)) (q .1 .1 .0)
-    (take-covered (in-session 5 t) (o .book .terms .multiplier) (outstanding (t .lines) row asset) (units o t row asset) (q .1 .1 .0)) side
+    (take-covered (in-session PartialDelivery t) (o .book .terms .multiplier) (outstanding (t .lines) row asset) (units o t row asset) (q .1 .1 .0)) side
 follows o t (call.Draw agent) p k e side =
   let q = ok-checks (checks o t (call.Draw agent)) (call.Draw agent) (answer o t (call.Draw agent)) e in
   let w = and-parts (ltb 0 (debit (o .book) (t .lines) agent)) (eqb (held t agent) 0) (q .1 .0) in

@@ -10,7 +10,7 @@ use Rattle.std.specs.declared.option.Option.the-variants.{Some, None}
 use Rattle.std.specs.declared.result.Result.{Result}
 use Rattle.std.specs.declared.result.Result.the-variants.{Err}
 use Rattle.std.specs.Results.{isOk}
-use Rattle.rules.specs.declared.session.Session.the-variants.{Closed}
+use Rattle.rules.specs.declared.session.Session.the-variants.{WholeDelivery, Closed}
 use Rattle.rules.specs.declared.side.Side.{Side}
 use Rattle.rules.specs.declared.side.Side.the-variants.{Securities, Cash}
 use Rattle.rules.specs.declared.call.Call.{Call}
@@ -23,11 +23,14 @@ use Rattle.book.specs.Books.{Contents, holder, sells}
 use Rattle.pairing.specs.Lines.{lot, total, of-seller, net}
 use Rattle.pairing.specs.Laws.{Well-paired}
 use Rattle.rules.specs.Numbers.{session-number}
-use Rattle.rules.specs.Tally.{Opening, Tally, told, claim, line, closed-on}
+use Rattle.rules.specs.Tally.{Opening, Tally, house, cash-asset, told, claim, line, closed-on}
 use Rattle.rules.specs.Verdict.{lines-a-holder, due, covers}
 use Rattle.rules.specs.Histories.{Entry, tally-of, Seen, register, Same, over, Stands}
 
 -- ---- from pairing on
+
+abbrev pub From-pairing-on : Tally → Type 0
+From-pairing-on t = session-number WholeDelivery ≤ session-number (t .session)
 
 pub record Paired (b : Contents) (t : Tally) : Type 0 where
   -- The lines are a pairing of the book, name fewer pairs than it has holders, and keep most contracts near.
@@ -68,9 +71,10 @@ pub record Finished (t : Tally) (i : ℕ) : Type 0 where
   pub settled-or-closed : line t i .settled + closed-on t i ≡ line t i .contracts
   pub none-in : line t i .settled + line t i .returned ≡ line t i .taken
 
+-- After whole settlement or close: the house has no cash and no basket asset, and every line is finished.
 pub record Ended (o : Opening) (h : List Entry) (n : Seen) : Type 0 where
-  pub no-cash : n .cash .balance 0 0 ≡ 0
-  pub no-units : (a : ℕ) → a < length (o .book .assets) → n .securities .balance 0 a ≡ 0
+  pub no-cash : n .cash .balance house cash-asset ≡ 0
+  pub no-units : (a : ℕ) → a < length (o .book .assets) → n .securities .balance house a ≡ 0
   pub lines : (i : ℕ) → Finished (tally-of o h) i
 
 -- Payment agents are numbered from 1 to this.
@@ -88,11 +92,10 @@ pub record Law (o : Opening) (h : List Entry) (n : Seen) : Type 0 where
   -- The session is the tally's, and the lines are: they stand in the first places, and later places are as at opening.
   pub session : n .session ≡ tally-of o h .session
   pub lines : n .table ≡ over (tally-of o h .lines) (o .table)
-  pub paired : 4 ≤ session-number (tally-of o h .session) → Paired (o .book) (tally-of o h)
+  pub paired : From-pairing-on (tally-of o h) → Paired (o .book) (tally-of o h)
   -- Each balance and issue of both registers is the tally's.
   pub registers : (side : Side) → Same (register n side) (told o (tally-of o h) side)
   pub covered : Covered o h
-  -- After whole settlement or close.
   pub ended : tally-of o h .session ≡ Closed → Ended o h n
   -- The nets and claims told are the tally's (nets 0 before pairing, claims 0 until a close), and claims add up to zero.
   pub nets : (agent : ℕ) → n .net agent ≡ net (o .book) (tally-of o h .lines) agent

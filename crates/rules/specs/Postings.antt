@@ -18,7 +18,7 @@ use Rattle.rules.specs.declared.side.Side.{Side}
 use Rattle.rules.specs.declared.side.Side.the-variants.{Securities, Cash}
 use Rattle.rules.specs.declared.call.Call.{Call}
 use Rattle.rules.specs.declared.call.Call.the-variants as call
-use Rattle.rules.specs.Tally.{Opening, Tally, same-side, held, told, takes, line, accepted}
+use Rattle.rules.specs.Tally.{Opening, Tally, house, cash-asset, same-side, held, told, takes, line, accepted}
 use Rattle.rules.specs.Verdict.{due, covers, verdict}
 use Rattle.rules.specs.Histories.{Entry, tally-of, Lived, Opens, Same}
 use Rattle.rules.specs.Law.{paying-side, last-agent}
@@ -52,7 +52,7 @@ None-refused side m (p ∷ ps) = (refusal side m p ≡ None) × None-refused sid
 
 -- Units or cash that account 0 pays out, if any.
 abbrev pub pays : Side → ℕ → ℕ → ℕ → List Posting
-pays side taker asset amount = cond (eqb amount 0) [] (moves side 0 taker asset amount ∷ [])
+pays side taker asset amount = cond (eqb amount 0) [] (moves side house taker asset amount ∷ [])
 
 abbrev pub for-each : {X : Type 0} → (X → List Posting) → List X → List Posting
 for-each f [] = []
@@ -76,25 +76,25 @@ asked o t row a = cond (eqb (takes o t row a) 0) 1 (takes o t row a)
 abbrev pub postings : Opening → Tally → Call → List Posting
 postings o t (call.Notice speaker member number asset contracts) = []
 -- The end of 4 gives the draws held back; before and after it there are none.
-postings o t call.End = for-agents (λ agent. pays Cash agent 0 (held t agent))
+postings o t call.End = for-agents (λ agent. pays Cash agent cash-asset (held t agent))
 postings o t call.Pair = []
 postings o t (call.Credit side account asset amount) = credits side account asset amount ∷ []
 -- From the seller to account 0.
 postings o t (call.Take member number asset) =
   let row = row-named (o .book) member number in
-  moves Securities row 0 asset (o .book .terms .multiplier * asked o t row asset) ∷ []
+  moves Securities row house asset (o .book .terms .multiplier * asked o t row asset) ∷ []
 -- From the agent to account 0.
-postings o t (call.Draw agent) = moves Cash agent 0 0 (debit (o .book) (t .lines) agent) ∷ []
+postings o t (call.Draw agent) = moves Cash agent house cash-asset (debit (o .book) (t .lines) agent) ∷ []
 -- Each line's units to its buyer, each net above 0 to its agent.
 postings o t call.SettleWhole =
   for-lines t (λ l. pays Securities (l .buyer) (l .asset) (o .book .terms .multiplier * inside l))
-  ++ for-agents (λ agent. pays Cash agent 0 (net-credit o t agent))
+  ++ for-agents (λ agent. pays Cash agent cash-asset (net-credit o t agent))
 -- The value from the buyer's agent through account 0 to the seller's agent, the units to the buyer.
 postings o t (call.SettleLine i) =
   let l = line t i in
   let worth = value (o .book) (l .asset) (inside l) in
-  moves Cash (buyer-agent (o .book) l) 0 0 worth
-  ∷ (pays Cash (seller-agent (o .book) l) 0 worth ++ pays Securities (l .buyer) (l .asset) (o .book .terms .multiplier * inside l))
+  moves Cash (buyer-agent (o .book) l) house cash-asset worth
+  ∷ (pays Cash (seller-agent (o .book) l) cash-asset worth ++ pays Securities (l .buyer) (l .asset) (o .book .terms .multiplier * inside l))
 -- The units of contracts in to their sellers.
 postings o t call.Close = for-lines t (λ l. pays Securities (l .seller) (l .asset) (o .book .terms .multiplier * inside l))
 

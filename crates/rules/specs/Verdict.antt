@@ -9,6 +9,7 @@ use Rattle.std.specs.declared.option.Option.the-variants.{Some, None}
 use Rattle.std.specs.declared.result.Result.{Result}
 use Rattle.std.specs.declared.result.Result.the-variants.{Ok, Err}
 use Rattle.book.specs.declared.records.Holder.{Holder}
+use Rattle.rules.specs.declared.session.Session.the-variants.{MembersNotices, ClearingNotices, Pairing, WholeDelivery, PartialDelivery}
 use Rattle.rules.specs.declared.side.Side.{Side}
 use Rattle.rules.specs.declared.side.Side.the-variants.{Securities, Cash}
 use Rattle.rules.specs.declared.speaker.Speaker.{Speaker}
@@ -30,21 +31,21 @@ use Rattle.register.specs.Rules.{Meaning, credit-refused}
 use Rattle.book.specs.Books.{Contents, holder, row-named, sells, value}
 use Rattle.order.specs.First.{any}
 use Rattle.pairing.specs.Lines.{unnotified, lines-of, open-on, inside, outstanding, buyer-agent, debit}
-use Rattle.rules.specs.Tally.{Opening, Tally, in-session, held, units, money, told, takes, line}
+use Rattle.rules.specs.Tally.{Opening, Tally, house, cash-asset, in-session, held, units, money, told, takes, line}
 
 -- ---- the checks
 
 -- The sessions in which a call is made.
 abbrev pub in-its-session : Tally → Call → Bool
-in-its-session t (call.Notice speaker member number asset contracts) = in-session 1 t || in-session 2 t
-in-its-session t call.End = in-session 1 t || (in-session 2 t || in-session 4 t)
-in-its-session t call.Pair = in-session 3 t
+in-its-session t (call.Notice speaker member number asset contracts) = in-session MembersNotices t || in-session ClearingNotices t
+in-its-session t call.End = in-session MembersNotices t || (in-session ClearingNotices t || in-session WholeDelivery t)
+in-its-session t call.Pair = in-session Pairing t
 in-its-session t (call.Credit side account asset amount) = true
-in-its-session t (call.Take member number asset) = in-session 4 t || in-session 5 t
-in-its-session t (call.Draw agent) = in-session 4 t
-in-its-session t call.SettleWhole = in-session 4 t
-in-its-session t (call.SettleLine i) = in-session 5 t
-in-its-session t call.Close = in-session 5 t
+in-its-session t (call.Take member number asset) = in-session WholeDelivery t || in-session PartialDelivery t
+in-its-session t (call.Draw agent) = in-session WholeDelivery t
+in-its-session t call.SettleWhole = in-session WholeDelivery t
+in-its-session t (call.SettleLine i) = in-session PartialDelivery t
+in-its-session t call.Close = in-session PartialDelivery t
 
 -- Something such is due: contracts outstanding, a debit not drawn yet, contracts in. An absent holder and a missing
 -- line have none; the other calls need nothing due.
@@ -71,15 +72,15 @@ covers o t call.Pair = true
 covers o t (call.Credit side account asset amount) = true
 covers o t (call.Take member number asset) =
   let row = row-named (o .book) member number in
-  leb (o .book .terms .multiplier * cond (in-session 5 t) 1 (outstanding (t .lines) row asset)) (units o t row asset)
-covers o t (call.Draw agent) = leb (debit (o .book) (t .lines) agent) (money o t agent 0)
+  leb (o .book .terms .multiplier * cond (in-session PartialDelivery t) 1 (outstanding (t .lines) row asset)) (units o t row asset)
+covers o t (call.Draw agent) = leb (debit (o .book) (t .lines) agent) (money o t agent cash-asset)
 covers o t call.SettleWhole = true
-covers o t (call.SettleLine i) = leb (value (o .book) (line t i .asset) (inside (line t i))) (money o t (buyer-agent (o .book) (line t i)) 0)
+covers o t (call.SettleLine i) = leb (value (o .book) (line t i .asset) (inside (line t i))) (money o t (buyer-agent (o .book) (line t i)) cash-asset)
 covers o t call.Close = true
 
 -- The speaker is the seller's clearing member or, in session 1 alone, its member.
 abbrev pub speaks-for : Tally → Speaker → Holder → Bool
-speaks-for t (speaker.Member n) h = in-session 1 t && eqb n (h .member)
+speaks-for t (speaker.Member n) h = in-session MembersNotices t && eqb n (h .member)
 speaks-for t (speaker.Clearing n) h = eqb n (h .clearing)
 
 -- Every contract is taken, and every debit drawn.
@@ -108,7 +109,7 @@ further o t (call.Notice speaker member number asset contracts) =
   ∷ (ltb 0 contracts && leb contracts (unnotified (t .lots) row seller), BadContracts) ∷ []
 further o t call.End = []
 further o t call.Pair = []
-further o t (call.Credit side account asset amount) = (ltb 0 account, HouseCredit) ∷ by-register side (credit-refused (told o t side) account asset amount)
+further o t (call.Credit side account asset amount) = (ltb house account, HouseCredit) ∷ by-register side (credit-refused (told o t side) account asset amount)
 further o t (call.Take member number asset) = (covers o t (call.Take member number asset), Register Securities Short) ∷ []
 further o t (call.Draw agent) = (covers o t (call.Draw agent), Register Cash Short) ∷ []
 further o t call.SettleWhole = (all-taken t && all-drawn o t, NotAllIn) ∷ []
@@ -159,12 +160,12 @@ abbrev pub room : Contents → ℕ → Meaning → Meaning → List (Bool × Par
 room b places securities cash =
   (leb (lines-a-holder * length (b .holders)) places, part.LineTable)
   ∷ (ltb (length (b .holders)) (securities .accounts) && leb (length (b .assets)) (securities .assets), part.Register Securities)
-  ∷ (not (any (λ h. leb (cash .accounts) (h .agent)) (b .holders)) && ltb 0 (cash .assets), part.Register Cash) ∷ []
+  ∷ (not (any (λ h. leb (cash .accounts) (h .agent)) (b .holders)) && ltb cash-asset (cash .assets), part.Register Cash) ∷ []
 
 -- Account 0 holds none of the first n assets.
 abbrev pub house-empty : Meaning → ℕ → Bool
 house-empty m zero = true
-house-empty m (suc n) = eqb (m .balance 0 n) 0 && house-empty m n
+house-empty m (suc n) = eqb (m .balance house n) 0 && house-empty m n
 
 -- The checks of an opening: an empty book, too little room, then a house that holds a basket asset or cash.
 abbrev pub opening-checks : Opening → List (Bool × OpeningFault)
@@ -172,7 +173,7 @@ opening-checks o =
   (ltb 0 (length (o .book .holders)), opening.EmptyBook)
   ∷ (map (λ x. (x .0, opening.TooSmall (x .1))) (room (o .book) (length (o .table)) (o .securities) (o .cash))
   ++ ((house-empty (o .securities) (length (o .book .assets)), opening.HouseHolds Securities)
-  ∷ (house-empty (o .cash) 1, opening.HouseHolds Cash) ∷ []))
+  ∷ (house-empty (o .cash) (suc cash-asset), opening.HouseHolds Cash) ∷ []))
 
 -- Why an expiry is not opened, if it is not.
 abbrev pub opening-refused : Opening → Option OpeningFault
