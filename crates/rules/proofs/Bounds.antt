@@ -22,7 +22,7 @@ use Rattle.book.specs.Books.{Contents, Sound, Holder-in-range, holder, nobody, 
 use Rattle.pairing.specs.Lines.{Lot, lot, sumℤ, total, of-seller, of-buyer, of-asset, open-on, inside, unsettled, buyer-agent, seller-agent, value-bought, value-sold, net, differences, claim-on}
 use Rattle.rules.specs.Tally.{Opening, Tally, held, all-held, claim}
 use Rattle.rules.specs.Histories.{tally-of, Opens}
-use Rattle.rules.specs.Law.{last-agent}
+use Rattle.book.specs.Limits.{most-agent}
 use Rattle.rules.specs.Ranges.{Sums-in-range}
 use Rattle.rules.proofs.Totals.{all-of, sum-le}
 use Rattle.rules.proofs.Kept.{Kept, Sane, in-lots, for-sale}
@@ -179,10 +179,10 @@ draws-bound o t p k =
   let b : Contents = o .book in
   let ls : List Line = t .lines in
   let e = held-all o t (p .book) k in
-  let f = over-le (held t) (value-bought b (λ l. l .contracts) ls) (counting 1 last-agent) (λ x. held-part o t x k) in
+  let f = over-le (held t) (value-bought b (λ l. l .contracts) ls) (counting 1 most-agent) (λ x. held-part o t x k) in
   let g = bought-in-all b (λ l. l .contracts) ls (p .book) (k .lines) in
   let v = value-sum b (λ _. true) (λ l. l .contracts) ls (p .book) (all-weaker (Sane b) (λ l. l .contracts ≤ l .contracts) (λ l v. omega arith) ls (k .lines)) (k .few) in
-  chained (all-held t) (sumBy (held t) (counting 1 last-agent)) (sumBy (value-bought b (λ l. l .contracts) ls) (counting 1 last-agent)) (sumBy (λ (l : Line). value b (l .asset) (l .contracts)) ls) 210000000000000000 e f g v
+  chained (all-held t) (sumBy (held t) (counting 1 most-agent)) (sumBy (value-bought b (λ l. l .contracts) ls) (counting 1 most-agent)) (sumBy (λ (l : Line). value b (l .asset) (l .contracts)) ls) 210000000000000000 e f g v
   where
     -- (Over numbers of its own, since the sums over agents are long.)
     chained : (x y z w most : ℕ) → y ≡ x → y ≤ z → z ≡ w → w ≤ most → x ≤ most

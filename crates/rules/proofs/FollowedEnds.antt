@@ -21,7 +21,7 @@ use Rattle.pairing.specs.declared.line.Line.{Line}
 use Rattle.pairing.specs.Lines.{total, of-seller, of-buyer, of-asset, inside, buyer-agent, seller-agent}
 use Rattle.rules.specs.declared.side.Side.{Side}
 use Rattle.rules.specs.declared.side.Side.the-variants.{Securities, Cash}
-use Rattle.rules.specs.Law.{last-agent}
+use Rattle.book.specs.Limits.{most-agent}
 use Rattle.rules.specs.Tally.{Opening, Tally, Credited, same-side, credited, issued, held, units, money, balance, told, with-credit}
 use Rattle.rules.specs.Histories.{Opens}
 use Rattle.rules.specs.Postings.{credits, Followed}
@@ -50,7 +50,7 @@ end-money o t u el ec ed d s v k zero =
   let b : Contents = o .book in
   let out : leaves Cash k 0 (paid-agents (held t)) ≡ house-cash t k = agents-leave (held t) k 0 ∙ (whole (eqb 0 k) (over-agents (held t)) ∙ ap (λ x. cond (eqb 0 k) x 0) (held-all o t d s)) in
   let into : enters Cash k 0 (paid-agents (held t)) ≡ held t k = agents-enter (held t) k (range (held t k) (λ some.
-    held-known o t (λ g. (1 ≤ g) × (g < 1 + last-agent)) s (all-weaker (Sane b) (λ l. (1 ≤ buyer-agent b l) × (buyer-agent b l < 1 + last-agent)) (λ l w. let i = agent-in b d (l .buyer) (w .buyer) in let h = i .1 in (i .0, omega (arith, h))) (t .lines) (s .lines)) k some)) in
+    held-known o t (λ g. (1 ≤ g) × (g < 1 + most-agent)) s (all-weaker (Sane b) (λ l. (1 ≤ buyer-agent b l) × (buyer-agent b l < 1 + most-agent)) (λ l w. let i = agent-in b d (l .buyer) (w .buyer) in let h = i .1 in (i .0, omega (arith, h))) (t .lines) (s .lines)) k some)) in
   let hu : held u k ≡ 0 = rw ed refl in
   let cu : house-cash u k ≡ 0 = rw ed (nil (eqb 0 k)) in
   let x : spent b (u .lines) k ≡ spent b (t .lines) k = rw el refl in

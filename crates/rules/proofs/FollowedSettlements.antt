@@ -22,7 +22,7 @@ use Rattle.rules.specs.declared.side.Side.{Side}
 use Rattle.rules.specs.declared.side.Side.the-variants.{Securities, Cash}
 use Rattle.rules.specs.declared.call.Call.the-variants as call
 use Rattle.rules.specs.Numbers.{session-number}
-use Rattle.rules.specs.Law.{last-agent}
+use Rattle.book.specs.Limits.{most-agent}
 use Rattle.rules.specs.Tally.{Opening, Tally, held, units, money, told, settle, give-back, with-lines, with-closed, accepted}
 use Rattle.rules.specs.Verdict.{checks, answer, verdict, all-taken, all-drawn}
 use Rattle.rules.specs.Histories.{Opens}
@@ -160,7 +160,7 @@ whole-money o t d s v e full un k zero =
   let qs : List Posting = paid-agents (net-credit o t) in
   let no-cash = lines-no-cash m (λ l. l .buyer) ls k 0 in
   let n0 = no-cash .0 in let n1 = no-cash .1 in
-  let sold = credit-known b (λ g. (1 ≤ g) × (g < 1 + last-agent)) ls k (all-weaker (Sane b) (λ l. (1 ≤ seller-agent b l) × (seller-agent b l < 1 + last-agent)) (λ l w. let i = agent-in b d (l .seller) (w .seller) in let h = i .1 in (i .0, omega (arith, h))) ls (s .lines)) in
+  let sold = credit-known b (λ g. (1 ≤ g) × (g < 1 + most-agent)) ls k (all-weaker (Sane b) (λ l. (1 ≤ seller-agent b l) × (seller-agent b l < 1 + most-agent)) (λ l w. let i = agent-in b d (l .seller) (w .seller) in let h = i .1 in (i .0, omega (arith, h))) ls (s .lines)) in
   let paid-one : enters Cash k 0 qs ≡ net-credit o t k = agents-enter (net-credit o t) k (elim sold [ inl z ↦ inr (omega (arith, z)) | inr i ↦ inl i ]) in
   let paid-all : leaves Cash k 0 qs ≡ house-cash t k = agents-leave (net-credit o t) k 0 ∙ (whole (eqb 0 k) (over-agents (net-credit o t)) ∙ ap (λ x. cond (eqb 0 k) x 0) (sym (whole-pays o t d s e))) in
   let out : leaves Cash k 0 (postings o t call.SettleWhole) ≡ house-cash t k = sumBy-append (goes-out Cash k 0) ps qs ∙ add-none (leaves Cash k 0 ps) (leaves Cash k 0 qs) (house-cash t k) n0 paid-all in

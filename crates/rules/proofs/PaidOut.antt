@@ -15,7 +15,7 @@ use Rattle.std.proofs.shelf.Tests.{ne-eqb, eq-eqb, cases-eq, false≢true}
 use Rattle.pairing.specs.declared.line.Line.{Line}
 use Rattle.pairing.specs.Lines.{total, of-asset, inside}
 use Rattle.rules.specs.declared.side.Side.the-variants.{Securities, Cash}
-use Rattle.rules.specs.Law.{last-agent}
+use Rattle.book.specs.Limits.{most-agent}
 use Rattle.rules.specs.Postings.{Posting, pays, for-each, for-agents}
 use Rattle.rules.proofs.Totals.{sum-zero, all-of}
 use Rattle.rules.proofs.WholePays.{over-agents, agents}
@@ -89,8 +89,8 @@ split-sum false f ks = sum-zero (λ (k : ℕ). 0) ks (all-of (λ (k : ℕ). _≡
 
 pub agents-leave : (f : ℕ → ℕ) (k a : ℕ) → leaves Cash k a (paid-agents f) ≡ cond (eqb 0 k && eqb 0 a) (over-agents f) 0
 agents-leave f k a =
-  each-sum (goes-out Cash k a) (λ g. pays Cash g 0 (f g)) (λ g. cond (eqb 0 k && eqb 0 a) (f g) 0) (counting 1 last-agent) (λ g. pays-leave Cash Cash k a g 0 (f g))
-  ∙ split-sum (eqb 0 k && eqb 0 a) f (counting 1 last-agent)
+  each-sum (goes-out Cash k a) (λ g. pays Cash g 0 (f g)) (λ g. cond (eqb 0 k && eqb 0 a) (f g) 0) (counting 1 most-agent) (λ g. pays-leave Cash Cash k a g 0 (f g))
+  ∙ split-sum (eqb 0 k && eqb 0 a) f (counting 1 most-agent)
 
 -- Each agent gets its own.
 own : (f : ℕ → ℕ) (k g : ℕ) → cond (eqb g k) (f g) 0 ≡ cond (eqb k g) (f k) 0
@@ -98,7 +98,7 @@ own f k g = elim (cases-eq g k)
   [ inl e ↦ rw (eq-eqb g k e, eq-eqb k g (sym e)) (ap f e)
   | inr e ↦ rw (ne-eqb g k e, ne-eqb k g (λ z. e (sym z))) refl ]
 
-at-agent : (f : ℕ → ℕ) (k : ℕ) → ((1 ≤ k) × (k < 1 + last-agent)) ⊎ (f k ≡ 0) → over-agents (λ g. cond (eqb g k) (f g) 0) ≡ f k
+at-agent : (f : ℕ → ℕ) (k : ℕ) → ((1 ≤ k) × (k < 1 + most-agent)) ⊎ (f k ≡ 0) → over-agents (λ g. cond (eqb g k) (f g) 0) ≡ f k
 at-agent f k h = agents .same (λ g. cond (eqb g k) (f g) 0) (λ g. cond (eqb k g) (f k) 0) (own f k) ∙ elim h
   [ inl i ↦ agents .one k (f k) i
   | inr z ↦ ap (λ d. over-agents (λ g. cond (eqb k g) d 0)) z ∙ (agents .same (λ g. cond (eqb k g) 0 0) (λ _. 0) (λ g. nil (eqb k g)) ∙ (agents .none ∙ sym z)) ]
@@ -107,9 +107,9 @@ at-agent f k h = agents .same (λ g. cond (eqb g k) (f g) 0) (λ g. cond (eqb k 
     nil true = refl
     nil false = refl
 
-pub agents-enter : (f : ℕ → ℕ) (k : ℕ) → ((1 ≤ k) × (k < 1 + last-agent)) ⊎ (f k ≡ 0) → enters Cash k 0 (paid-agents f) ≡ f k
+pub agents-enter : (f : ℕ → ℕ) (k : ℕ) → ((1 ≤ k) × (k < 1 + most-agent)) ⊎ (f k ≡ 0) → enters Cash k 0 (paid-agents f) ≡ f k
 agents-enter f k h =
-  each-sum (comes-in Cash k 0) (λ g. pays Cash g 0 (f g)) (λ g. cond (eqb g k) (f g) 0) (counting 1 last-agent) (λ g. pays-enter Cash Cash k 0 g 0 (f g) ∙ whole (eqb g k) (f g))
+  each-sum (comes-in Cash k 0) (λ g. pays Cash g 0 (f g)) (λ g. cond (eqb g k) (f g) 0) (counting 1 most-agent) (λ g. pays-enter Cash Cash k 0 g 0 (f g) ∙ whole (eqb g k) (f g))
   ∙ at-agent f k h
   where
     whole : (c : Bool) (n : ℕ) → cond (c && true) n 0 ≡ cond c n 0
@@ -118,9 +118,9 @@ agents-enter f k h =
 
 pub agents-enter-other : (f : ℕ → ℕ) (k a : ℕ) → enters Cash k (suc a) (paid-agents f) ≡ 0
 agents-enter-other f k a =
-  each-sum (comes-in Cash k (suc a)) (λ g. pays Cash g 0 (f g)) (λ _. 0) (counting 1 last-agent)
+  each-sum (comes-in Cash k (suc a)) (λ g. pays Cash g 0 (f g)) (λ _. 0) (counting 1 most-agent)
     (λ g. pays-enter Cash Cash k (suc a) g 0 (f g) ∙ never (eqb g k) (eqb 0 (suc a)) (f g) (ne-eqb 0 (suc a) (λ z. omega arith)))
-  ∙ sum-zero (λ (g : ℕ). 0) (counting 1 last-agent) (all-of (λ (g : ℕ). _≡_ {A = ℕ} 0 0) (λ g. refl) (counting 1 last-agent))
+  ∙ sum-zero (λ (g : ℕ). 0) (counting 1 most-agent) (all-of (λ (g : ℕ). _≡_ {A = ℕ} 0 0) (λ g. refl) (counting 1 most-agent))
   where
     never : (c d : Bool) (n : ℕ) → d ≡ false → cond (c && d) n 0 ≡ 0
     never true d n e = rw e refl
@@ -129,18 +129,18 @@ agents-enter-other f k a =
 -- No units move with them.
 pub agents-no-units : (f : ℕ → ℕ) (k a : ℕ) → (leaves Securities k a (paid-agents f) ≡ 0) × (enters Securities k a (paid-agents f) ≡ 0)
 agents-no-units f k a =
-  ( each-sum (goes-out Securities k a) (λ g. pays Cash g 0 (f g)) (λ _. 0) (counting 1 last-agent) (λ g. pays-leave Securities Cash k a g 0 (f g)) ∙ none
-  , each-sum (comes-in Securities k a) (λ g. pays Cash g 0 (f g)) (λ _. 0) (counting 1 last-agent) (λ g. pays-enter Securities Cash k a g 0 (f g)) ∙ none )
+  ( each-sum (goes-out Securities k a) (λ g. pays Cash g 0 (f g)) (λ _. 0) (counting 1 most-agent) (λ g. pays-leave Securities Cash k a g 0 (f g)) ∙ none
+  , each-sum (comes-in Securities k a) (λ g. pays Cash g 0 (f g)) (λ _. 0) (counting 1 most-agent) (λ g. pays-enter Securities Cash k a g 0 (f g)) ∙ none )
   where
-    none : sumBy (λ (g : ℕ). 0) (counting 1 last-agent) ≡ 0
-    none = sum-zero (λ (g : ℕ). 0) (counting 1 last-agent) (all-of (λ (g : ℕ). _≡_ {A = ℕ} 0 0) (λ g. refl) (counting 1 last-agent))
+    none : sumBy (λ (g : ℕ). 0) (counting 1 most-agent) ≡ 0
+    none = sum-zero (λ (g : ℕ). 0) (counting 1 most-agent) (all-of (λ (g : ℕ). _≡_ {A = ℕ} 0 0) (λ g. refl) (counting 1 most-agent))
 
 pub agents-payouts : (accounts assets : ℕ) (f : ℕ → ℕ) → ((k : ℕ) → 0 < f k → (0 < k) × (k < accounts)) → 0 < assets → All (Payout Cash accounts assets) (paid-agents f)
-agents-payouts accounts assets f known some = each-all (Payout Cash accounts assets) (λ g. pays Cash g 0 (f g)) (counting 1 last-agent)
+agents-payouts accounts assets f known some = each-all (Payout Cash accounts assets) (λ g. pays Cash g 0 (f g)) (counting 1 most-agent)
   (all-of (λ g. All (Payout Cash accounts assets) (pays Cash g 0 (f g)))
-    (λ g. pays-payout Cash Cash accounts assets g 0 (f g) (λ p _. let h = known g p in (h .0, h .1, some))) (counting 1 last-agent))
+    (λ g. pays-payout Cash Cash accounts assets g 0 (f g) (λ p _. let h = known g p in (h .0, h .1, some))) (counting 1 most-agent))
 
 pub agents-no-payouts : (accounts assets : ℕ) (f : ℕ → ℕ) → All (Payout Securities accounts assets) (paid-agents f)
-agents-no-payouts accounts assets f = each-all (Payout Securities accounts assets) (λ g. pays Cash g 0 (f g)) (counting 1 last-agent)
+agents-no-payouts accounts assets f = each-all (Payout Securities accounts assets) (λ g. pays Cash g 0 (f g)) (counting 1 most-agent)
   (all-of (λ g. All (Payout Securities accounts assets) (pays Cash g 0 (f g)))
-    (λ g. pays-payout Securities Cash accounts assets g 0 (f g) (λ _ e. absurd (false≢true e))) (counting 1 last-agent))
+    (λ g. pays-payout Securities Cash accounts assets g 0 (f g) (λ _ e. absurd (false≢true e))) (counting 1 most-agent))

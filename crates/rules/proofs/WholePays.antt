@@ -18,7 +18,7 @@ use Rattle.pairing.specs.Lines.{buyer-agent, seller-agent, value-bought, value-
 use Rattle.rules.specs.Tally.{Opening, Tally, Drawn, held, all-held}
 use Rattle.order.specs.First.{any}
 use Rattle.rules.specs.Verdict.{verdict, checks, answer, all-taken, all-drawn}
-use Rattle.rules.specs.Law.{last-agent}
+use Rattle.book.specs.Limits.{most-agent}
 use Rattle.rules.proofs.ByNumber.{Summing, counted, parts}
 use Rattle.rules.proofs.Totals.{total-or}
 use Rattle.rules.proofs.Kept.{Kept, Sane}
@@ -27,12 +27,12 @@ use Rattle.rules.proofs.Checks.{ok-checks, not-any}
 
 -- the sum over agents
 abbrev pub over-agents : (ℕ → ℕ) → ℕ
-over-agents f = sumBy f (counting 1 last-agent)
+over-agents f = sumBy f (counting 1 most-agent)
 
-pub agents : Summing over-agents (λ k. (1 ≤ k) × (k < 1 + last-agent))
-agents = counted 1 last-agent
+pub agents : Summing over-agents (λ k. (1 ≤ k) × (k < 1 + most-agent))
+agents = counted 1 most-agent
 
-among : (k : ℕ) → In 1 64 k → (1 ≤ k) × (k < 1 + last-agent)
+among : (k : ℕ) → In 1 64 k → (1 ≤ k) × (k < 1 + most-agent)
 among k i = (i .0, let h = i .1 in omega (arith, h))
 
 -- what one falls short by and what it is over, in sum
@@ -44,12 +44,12 @@ short-over f g =
 
 -- What all agents buy, and what they sell, is the value of all lines.
 pub bought-in-all : (b : Contents) (f : Line → ℕ) (ls : List Line) → Sound b → All (Sane b) ls → over-agents (value-bought b f ls) ≡ sumBy (λ l. value b (l .asset) (f l)) ls
-bought-in-all b f ls s a = parts over-agents (λ k. (1 ≤ k) × (k < 1 + last-agent)) agents (buyer-agent b) (λ l. value b (l .asset) (f l)) ls
-  (all-weaker (Sane b) (λ l. ((1 ≤ buyer-agent b l) × (buyer-agent b l < 1 + last-agent)) ⊎ (value b (l .asset) (f l) ≡ 0)) (λ l v. inl (among (buyer-agent b l) (agent-in b s (l .buyer) (v .buyer)))) ls a)
+bought-in-all b f ls s a = parts over-agents (λ k. (1 ≤ k) × (k < 1 + most-agent)) agents (buyer-agent b) (λ l. value b (l .asset) (f l)) ls
+  (all-weaker (Sane b) (λ l. ((1 ≤ buyer-agent b l) × (buyer-agent b l < 1 + most-agent)) ⊎ (value b (l .asset) (f l) ≡ 0)) (λ l v. inl (among (buyer-agent b l) (agent-in b s (l .buyer) (v .buyer)))) ls a)
 
 pub sold-in-all : (b : Contents) (f : Line → ℕ) (ls : List Line) → Sound b → All (Sane b) ls → over-agents (value-sold b f ls) ≡ sumBy (λ l. value b (l .asset) (f l)) ls
-sold-in-all b f ls s a = parts over-agents (λ k. (1 ≤ k) × (k < 1 + last-agent)) agents (seller-agent b) (λ l. value b (l .asset) (f l)) ls
-  (all-weaker (Sane b) (λ l. ((1 ≤ seller-agent b l) × (seller-agent b l < 1 + last-agent)) ⊎ (value b (l .asset) (f l) ≡ 0)) (λ l v. inl (among (seller-agent b l) (agent-in b s (l .seller) (v .seller)))) ls a)
+sold-in-all b f ls s a = parts over-agents (λ k. (1 ≤ k) × (k < 1 + most-agent)) agents (seller-agent b) (λ l. value b (l .asset) (f l)) ls
+  (all-weaker (Sane b) (λ l. ((1 ≤ seller-agent b l) × (seller-agent b l < 1 + most-agent)) ⊎ (value b (l .asset) (f l) ≡ 0)) (λ l v. inl (among (seller-agent b l) (agent-in b s (l .seller) (v .seller)))) ls a)
 
 -- an agent buys nothing, or what holds of every buyer's agent holds of it
 buys-or : (b : Contents) (P : ℕ → Type 0) (ls : List Line) (k : ℕ) → All (λ l. P (buyer-agent b l)) ls → (value-bought b (λ l. l .contracts) ls k ≡ 0) ⊎ P k
@@ -60,8 +60,8 @@ pub held-all : (o : Opening) (t : Tally) → Sound (o .book) → Kept o t → ov
 held-all o t s k =
   let b : Contents = o .book in
   let ls : List Line = t .lines in
-  parts over-agents (λ k. (1 ≤ k) × (k < 1 + last-agent)) agents (λ (x : Drawn). x .agent) (λ x. x .amount) (t .draws)
-    (all-weaker (λ (x : Drawn). x .amount ≡ debit b ls (x .agent)) (λ x. ((1 ≤ x .agent) × (x .agent < 1 + last-agent)) ⊎ (x .amount ≡ 0))
+  parts over-agents (λ k. (1 ≤ k) × (k < 1 + most-agent)) agents (λ (x : Drawn). x .agent) (λ x. x .amount) (t .draws)
+    (all-weaker (λ (x : Drawn). x .amount ≡ debit b ls (x .agent)) (λ x. ((1 ≤ x .agent) × (x .agent < 1 + most-agent)) ⊎ (x .amount ≡ 0))
       (λ x h. elim (buys-or b (λ g. In 1 64 g) ls (x .agent) (all-weaker (Sane b) (λ l. In 1 64 (buyer-agent b l)) (λ l v. agent-in b s (l .buyer) (v .buyer)) ls (k .lines)))
         [ inl z ↦ inr (omega (arith, h, z)) | inr i ↦ inl (among (x .agent) i) ]) (t .draws) (k .draws))
 

@@ -19,6 +19,7 @@ use Rattle.rules.specs.declared.answer.Answer.{Answer}
 use Rattle.register.specs.declared.fault.RegisterFault.the-variants.{Short}
 use Rattle.rules.specs.declared.fault.Cause.the-variants.{Register}
 use Rattle.rules.specs.declared.fault.Fault.{Fault}
+use Rattle.book.specs.Limits.{most-agent}
 use Rattle.book.specs.Books.{Contents, holder, sells}
 use Rattle.pairing.specs.Lines.{lot, total, of-seller, net}
 use Rattle.pairing.specs.Laws.{Well-paired}
@@ -77,10 +78,6 @@ pub record Ended (o : Opening) (h : List Entry) (n : Seen) : Type 0 where
   pub no-units : (a : ℕ) → a < length (o .book .assets) → n .securities .balance house a ≡ 0
   pub lines : (i : ℕ) → Finished (tally-of o h) i
 
--- Payment agents are numbered from 1 to this.
-abbrev pub last-agent : ℕ
-last-agent = 64
-
 -- The sum over agents 1 to n.
 abbrev pub sum-agents : (ℕ → ℤ) → ℕ → ℤ
 sum-agents f zero = pos 0
@@ -100,7 +97,7 @@ pub record Law (o : Opening) (h : List Entry) (n : Seen) : Type 0 where
   -- The nets and claims told are the tally's (nets 0 before pairing, claims 0 until a close), and claims add up to zero.
   pub nets : (agent : ℕ) → n .net agent ≡ net (o .book) (tally-of o h .lines) agent
   pub claims : (agent : ℕ) → n .claim agent ≡ claim (o .book) (tally-of o h) agent
-  pub zero-sum : sum-agents (n .claim) last-agent ≡ pos 0
+  pub zero-sum : sum-agents (n .claim) most-agent ≡ pos 0
 
 -- Wherever an expiry stands, the law holds.
 abbrev pub Law-holds : Type 0

@@ -11,6 +11,7 @@ use Rattle.std.specs.declared.option.Option.the-variants.{Some, None}
 use Rattle.register.specs.declared.fault.RegisterFault.{RegisterFault}
 use Rattle.register.specs.declared.fault.RegisterFault.the-variants.{Short}
 use Rattle.register.specs.Rules.{Meaning, credit-refused, transfer-refused, after-credit, after-transfer}
+use Rattle.book.specs.Limits.{most-agent}
 use Rattle.book.specs.Books.{row-named, value}
 use Rattle.pairing.specs.declared.line.Line.{Line}
 use Rattle.pairing.specs.Lines.{inside, buyer-agent, seller-agent, value-bought, value-sold, debit}
@@ -21,7 +22,7 @@ use Rattle.rules.specs.declared.call.Call.the-variants as call
 use Rattle.rules.specs.Tally.{Opening, Tally, house, cash-asset, same-side, held, told, takes, line, accepted}
 use Rattle.rules.specs.Verdict.{due, covers, verdict}
 use Rattle.rules.specs.Histories.{Entry, tally-of, Lived, Opens, Same}
-use Rattle.rules.specs.Law.{paying-side, last-agent}
+use Rattle.rules.specs.Law.{paying-side}
 
 -- ---- postings
 
@@ -63,7 +64,7 @@ abbrev pub for-lines : Tally → (Line → List Posting) → List Posting
 for-lines t f = for-each f (t .lines)
 
 abbrev pub for-agents : (ℕ → List Posting) → List Posting
-for-agents f = for-each f (counting 1 last-agent)
+for-agents f = for-each f (counting 1 most-agent)
 
 -- What an agent's net is above 0.
 abbrev pub net-credit : Opening → Tally → ℕ → ℕ

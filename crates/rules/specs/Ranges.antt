@@ -5,31 +5,29 @@ use mathlib.Core.List.{List}
 use lib.IntN.{ℤ, natAbs}
 use Rattle.std.specs.shelf.Lists.{sumBy, All}
 use Rattle.register.specs.Rules.{Lawful}
+use Rattle.book.specs.Limits.{most-bought, most-multiplier, most-market}
 use Rattle.book.specs.Books.{value}
 use Rattle.pairing.specs.Lines.{lot, total, of-seller, of-buyer, of-asset, inside, outstanding, value-bought, value-sold, net}
 use Rattle.rules.specs.declared.side.Side.{Side}
 use Rattle.rules.specs.Tally.{Opening, Tally, opened, told, all-held, claim}
 use Rattle.rules.specs.Histories.{Entry, tally-of, Lived, Opens}
 
--- No book has more contracts bought.
-abbrev pub most-contracts : ℕ
-most-contracts = 1000000
-
--- Those, at the largest multiplier, 1,000 units.
+-- The most contracts of a book, at the largest multiplier.
 abbrev pub most-units : ℕ
-most-units = 1000000000
+most-units = most-bought * most-multiplier
 
--- Those, at the highest invoice price or market price, 210,000,000 centavos.
+-- Those, at the highest market price. No invoice price is higher.
 abbrev pub most-value : ℕ
-most-value = 210000000000000000
+most-value = most-units * most-market
 
+-- A signed number at most so far from 0.
 abbrev pub Within : ℕ → ℤ → Type 0
 Within most z = natAbs z ≤ most
 
 pub record In-range (o : Opening) (t : Tally) : Type 0 where
   -- The contracts of a lot, of all lines together, and of each line in their order: settled and returned, taken, all.
-  pub lots : (row asset : ℕ) → lot (t .lots) row asset ≤ most-contracts
-  pub contracts : sumBy (λ l. l .contracts) (t .lines) ≤ most-contracts
+  pub lots : (row asset : ℕ) → lot (t .lots) row asset ≤ most-bought
+  pub contracts : sumBy (λ l. l .contracts) (t .lines) ≤ most-bought
   pub counts : All (λ l. (l .settled + l .returned ≤ l .taken) × (l .taken ≤ l .contracts)) (t .lines)
   -- The units that a seller has outstanding, gave and did not get back, that a buyer got, and that account 0 holds.
   pub outstanding-units : (row asset : ℕ) → o .book .terms .multiplier * outstanding (t .lines) row asset ≤ most-units

@@ -28,6 +28,7 @@ use Rattle.rules.specs.declared.fault.Fault.{Fault}
 use Rattle.rules.specs.declared.fault.OpeningFault.{OpeningFault}
 use Rattle.rules.specs.declared.fault.OpeningFault.the-variants as opening
 use Rattle.register.specs.Rules.{Meaning, credit-refused}
+use Rattle.book.specs.Limits.{most-assets}
 use Rattle.book.specs.Books.{Contents, holder, row-named, sells, value}
 use Rattle.order.specs.First.{any}
 use Rattle.pairing.specs.Lines.{unnotified, lines-of, open-on, inside, outstanding, buyer-agent, debit}
@@ -94,6 +95,7 @@ all-drawn o t = not (any (λ h. ltb (held t (h .agent)) (debit (o .book) (t .lin
 abbrev pub Check : Type 0
 Check = Bool × Cause
 
+-- What the register refuses, if it does.
 abbrev pub by-register : Side → Option RegisterFault → List Check
 by-register side None = []
 by-register side (Some e) = (false, Register side e) ∷ []
@@ -140,19 +142,21 @@ decide [] c a = Ok a
 decide ((true, cause) ∷ rest) c a = decide rest c a
 decide ((false, cause) ∷ rest) c a = Err (record { cause = cause; call = c })
 
+-- The one answer to a call.
 abbrev pub verdict : Opening → Tally → Call → Result Answer Fault
 verdict o t c = let a = answer o t c in decide (checks o t c) c a
 
 -- ---- opening, and what is too small
 
+-- The first of checks that fails.
 abbrev pub first-failed : {E : Type 0} → List (Bool × E) → Option E
 first-failed [] = None
 first-failed ((true, e) ∷ rest) = first-failed rest
 first-failed ((false, e) ∷ rest) = Some e
 
--- Pairs are fewer than holders, and each makes at most one line for each of at most 4 assets.
+-- Pairs are fewer than holders, and each makes at most one line for each asset.
 abbrev pub lines-a-holder : ℕ
-lines-a-holder = 4
+lines-a-holder = most-assets
 
 -- Places for all lines; a securities account for each row and one for the house, and the book's assets; a cash
 -- account for each agent and one for the house, and an asset, cash.

@@ -31,7 +31,7 @@ use Rattle.rules.specs.Numbers.{session-number, number, opening-number}
 use Rattle.rules.specs.Tally.{Opening, Tally, empty, balance, told, claim, no-line}
 use Rattle.rules.specs.Verdict.{verdict, opening-refused, too-small}
 use Rattle.rules.specs.Histories.{after}
-use Rattle.rules.specs.Law.{last-agent}
+use Rattle.book.specs.Limits.{most-agent}
 use Rattle.rules.specs.Examples.{zeros}
 
 -- ---- what is asked and told
@@ -149,7 +149,7 @@ standing o t = record
   ; lines = map (λ l. (l .contracts, l .taken, l .settled, l .returned)) (t .lines)
   ; securities = balances o t Securities (o .securities .accounts) (o .securities .assets)
   ; cash = balances o t Cash (o .cash .accounts) (o .cash .assets)
-  ; agents = each-of (λ k. let n = net (o .book) (t .lines) k in let c = claim (o .book) t k in cond (eqb (natAbs n) 0 && eqb (natAbs c) 0) [] ((k, n, c) ∷ [])) (counting 1 last-agent) }
+  ; agents = each-of (λ k. let n = net (o .book) (t .lines) k in let c = claim (o .book) t k in cond (eqb (natAbs n) 0 && eqb (natAbs c) 0) [] ((k, n, c) ∷ [])) (counting 1 most-agent) }
 
 -- ---- how the rules play it
 
