@@ -12,10 +12,9 @@ import argparse
 import random
 from pathlib import Path
 
-from book import read
-from day import PLACES_A_HOLDER
+from day import PLACES_A_HOLDER, Day
 from day_cases import Script, greatest_values, last_agent, openings, random_day, worked
-from escaping import unescape
+from random_books import PRINTED
 
 WIDTH = 150
 DAYS_A_FILE = 8
@@ -161,7 +160,6 @@ class Table:
 
 def tables(script):
     """The days of a script."""
-    from day import Day
     player, table = Day(), None
     for line in script.lines:
         if line.startswith("book "):
@@ -172,8 +170,19 @@ def tables(script):
     yield table
 
 
+def page_day(script):
+    """The worked day of docs/rules.md."""
+    script.start(PRINTED, units=[("s", 1, 0, 20), ("s", 1, 1, 30), ("s", 4, 1, 25)])
+    for line in ("notice,m,1,1,1,0,2", "notice,m,3,3,1,0,5", "end", "notice,c,2,3,1,2,1", "end",
+                 "pair", "tell", "take,1,1,0", "take,1,1,1", "take,3,1,1", "credit,c,2,0,20000",
+                 "draw,2", "draw,2", "whole", "tell", "end", "tell", "take,3,1,1",
+                 "credit,c,1,0,70000", "line,1", "line,2", "line,3", "line,4", "line,5", "tell",
+                 "close", "tell", "end", "credit,s,0,1,5"):
+        script.say(line)
+
+
 def all_days(count, seed):
-    for part in (openings, worked, last_agent, greatest_values):
+    for part in (page_day, openings, worked, last_agent, greatest_values):
         script = Script()
         part(script)
         yield from tables(script)

@@ -1,4 +1,4 @@
--- All days agree: 60 of them. Written by tests/rules_days.py.
+-- All days agree: 61 of them. Written by tests/rules_days.py.
 use mathlib.Core.List.{List}
 use Rattle.rules_days.specs.Trials.{Agree}
 use Rattle.rules_days.specs.Days01 as days01

@@ -14,18 +14,18 @@ day-1 = record
   { book = book 10 1000
     (asset 1000000 0 1010 ∷ asset 900000 50 940 ∷ [])
     (seller 1 1 1 1 5 ∷ buyer 1 2 1 1 3 ∷ buyer 2 1 1 1 4 ∷ seller 3 1 2 1 4 ∷ buyer 4 1 3 2 2 ∷ [])
-  ; places = 20; securities = (6, 2); cash = (2, 1)
-  ; placed = record { side = Securities; account = 0; asset = 1; amount = 1 } ∷ record { side = Cash; account = 0; asset = 0; amount = 1 } ∷ []
+  ; places = 20; securities = (5, 16); cash = (3, 1)
+  ; placed = []
   ; asked = []
-  ; told = refused-by Cash 15 ∷ [] }
+  ; told = refused-by Securities 15 ∷ [] }
 
 abbrev pub day-2 : Day
 day-2 = record
   { book = book 10 1000
     (asset 1000000 0 1010 ∷ asset 900000 50 940 ∷ [])
     (seller 1 1 1 1 5 ∷ buyer 1 2 1 1 3 ∷ buyer 2 1 1 1 4 ∷ seller 3 1 2 1 4 ∷ buyer 4 1 3 2 2 ∷ [])
-  ; places = 20; securities = (6, 2); cash = (2, 16)
-  ; placed = []
+  ; places = 20; securities = (6, 2); cash = (2, 1)
+  ; placed = record { side = Securities; account = 0; asset = 1; amount = 1 } ∷ record { side = Cash; account = 0; asset = 0; amount = 1 } ∷ []
   ; asked = []
   ; told = refused-by Cash 15 ∷ [] }
 
@@ -34,10 +34,10 @@ day-3 = record
   { book = book 10 1000
     (asset 1000000 0 1010 ∷ asset 900000 50 940 ∷ [])
     (seller 1 1 1 1 5 ∷ buyer 1 2 1 1 3 ∷ buyer 2 1 1 1 4 ∷ seller 3 1 2 1 4 ∷ buyer 4 1 3 2 2 ∷ [])
-  ; places = 20; securities = (6, 2); cash = (3, 1)
-  ; placed = record { side = Securities; account = 0; asset = 0; amount = 1 } ∷ record { side = Cash; account = 0; asset = 0; amount = 1 } ∷ []
+  ; places = 20; securities = (6, 2); cash = (2, 16)
+  ; placed = []
   ; asked = []
-  ; told = refused-by Securities 16 ∷ [] }
+  ; told = refused-by Cash 15 ∷ [] }
 
 abbrev pub day-4 : Day
 day-4 = record
@@ -45,7 +45,7 @@ day-4 = record
     (asset 1000000 0 1010 ∷ asset 900000 50 940 ∷ [])
     (seller 1 1 1 1 5 ∷ buyer 1 2 1 1 3 ∷ buyer 2 1 1 1 4 ∷ seller 3 1 2 1 4 ∷ buyer 4 1 3 2 2 ∷ [])
   ; places = 20; securities = (6, 2); cash = (3, 1)
-  ; placed = record { side = Securities; account = 0; asset = 1; amount = 1 } ∷ []
+  ; placed = record { side = Securities; account = 0; asset = 0; amount = 1 } ∷ record { side = Cash; account = 0; asset = 0; amount = 1 } ∷ []
   ; asked = []
   ; told = refused-by Securities 16 ∷ [] }
 
@@ -55,12 +55,22 @@ day-5 = record
     (asset 1000000 0 1010 ∷ asset 900000 50 940 ∷ [])
     (seller 1 1 1 1 5 ∷ buyer 1 2 1 1 3 ∷ buyer 2 1 1 1 4 ∷ seller 3 1 2 1 4 ∷ buyer 4 1 3 2 2 ∷ [])
   ; places = 20; securities = (6, 2); cash = (3, 1)
+  ; placed = record { side = Securities; account = 0; asset = 1; amount = 1 } ∷ []
+  ; asked = []
+  ; told = refused-by Securities 16 ∷ [] }
+
+abbrev pub day-6 : Day
+day-6 = record
+  { book = book 10 1000
+    (asset 1000000 0 1010 ∷ asset 900000 50 940 ∷ [])
+    (seller 1 1 1 1 5 ∷ buyer 1 2 1 1 3 ∷ buyer 2 1 1 1 4 ∷ seller 3 1 2 1 4 ∷ buyer 4 1 3 2 2 ∷ [])
+  ; places = 20; securities = (6, 2); cash = (3, 1)
   ; placed = record { side = Cash; account = 0; asset = 0; amount = 1 } ∷ []
   ; asked = []
   ; told = refused-by Cash 16 ∷ [] }
 
-abbrev pub day-6 : Day
-day-6 = record
+abbrev pub day-7 : Day
+day-7 = record
   { book = book 10 1000
     (asset 1000000 0 1010 ∷ asset 900000 50 940 ∷ [])
     (seller 1 1 1 1 5 ∷ buyer 1 2 1 1 3 ∷ buyer 2 1 1 1 4 ∷ seller 3 1 2 1 4 ∷ buyer 4 1 3 2 2 ∷ [])
@@ -84,8 +94,8 @@ day-6 = record
     ; agents = (1, pos 19000, pos 200) ∷ (2, negsuc 18999, negsuc 199) ∷ [] }) ∷
     [] }
 
-abbrev pub day-7 : Day
-day-7 = record
+abbrev pub day-8 : Day
+day-8 = record
   { book = book 10 1000
     (asset 1000000 0 1010 ∷ asset 900000 50 940 ∷ [])
     (seller 1 1 1 1 5 ∷ buyer 1 2 1 1 3 ∷ buyer 2 1 1 1 4 ∷ seller 3 1 2 1 4 ∷ buyer 4 1 3 2 2 ∷ [])
@@ -106,31 +116,6 @@ day-7 = record
     ; lines = (3, 0, 0, 0) ∷ (2, 0, 0, 0) ∷ (2, 2, 2, 0) ∷ (2, 0, 0, 0) ∷ []
     ; securities = (3, 1, 20) ∷ (4, 1, 5) ∷ []
     ; cash = (1, 0, 19000) ∷ []
-    ; agents = (1, pos 19000, pos 200) ∷ (2, negsuc 18999, negsuc 199) ∷ [] }) ∷
-    [] }
-
-abbrev pub day-8 : Day
-day-8 = record
-  { book = book 10 1000
-    (asset 1000000 0 1010 ∷ asset 900000 50 940 ∷ [])
-    (seller 1 1 1 1 5 ∷ buyer 1 2 1 1 3 ∷ buyer 2 1 1 1 4 ∷ seller 3 1 2 1 4 ∷ buyer 4 1 3 2 2 ∷ [])
-  ; places = 20; securities = (6, 2); cash = (3, 1)
-  ; placed = record { side = Securities; account = 4; asset = 1; amount = 9 } ∷ []
-  ; asked = asks (call.End) ∷ asks (call.End) ∷ asks (call.Pair) ∷ asks (call.Take 3 1 1) ∷ asks (call.End) ∷ asks (call.Take 3 1 1) ∷ tell ∷
-    asks (call.Close) ∷ tell ∷ []
-  ; told = ok ∷ ok ∷ ok ∷ counts 4 ∷ refused-by Securities 24 ∷ ok ∷ refused-by Securities 24 ∷
-    stands (record
-    { session = 5
-    ; lines = (3, 0, 0, 0) ∷ (2, 0, 0, 0) ∷ (2, 0, 0, 0) ∷ (2, 0, 0, 0) ∷ []
-    ; securities = (4, 1, 9) ∷ []
-    ; cash = []
-    ; agents = (1, pos 19000, pos 0) ∷ (2, negsuc 18999, pos 0) ∷ [] }) ∷
-    ok ∷
-    stands (record
-    { session = 6
-    ; lines = (3, 0, 0, 0) ∷ (2, 0, 0, 0) ∷ (2, 0, 0, 0) ∷ (2, 0, 0, 0) ∷ []
-    ; securities = (4, 1, 9) ∷ []
-    ; cash = []
     ; agents = (1, pos 19000, pos 200) ∷ (2, negsuc 18999, negsuc 199) ∷ [] }) ∷
     [] }
 

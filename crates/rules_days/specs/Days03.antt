@@ -15,6 +15,31 @@ day-1 = record
     (asset 1000000 0 1010 ∷ asset 900000 50 940 ∷ [])
     (seller 1 1 1 1 5 ∷ buyer 1 2 1 1 3 ∷ buyer 2 1 1 1 4 ∷ seller 3 1 2 1 4 ∷ buyer 4 1 3 2 2 ∷ [])
   ; places = 20; securities = (6, 2); cash = (3, 1)
+  ; placed = record { side = Securities; account = 4; asset = 1; amount = 9 } ∷ []
+  ; asked = asks (call.End) ∷ asks (call.End) ∷ asks (call.Pair) ∷ asks (call.Take 3 1 1) ∷ asks (call.End) ∷ asks (call.Take 3 1 1) ∷ tell ∷
+    asks (call.Close) ∷ tell ∷ []
+  ; told = ok ∷ ok ∷ ok ∷ counts 4 ∷ refused-by Securities 24 ∷ ok ∷ refused-by Securities 24 ∷
+    stands (record
+    { session = 5
+    ; lines = (3, 0, 0, 0) ∷ (2, 0, 0, 0) ∷ (2, 0, 0, 0) ∷ (2, 0, 0, 0) ∷ []
+    ; securities = (4, 1, 9) ∷ []
+    ; cash = []
+    ; agents = (1, pos 19000, pos 0) ∷ (2, negsuc 18999, pos 0) ∷ [] }) ∷
+    ok ∷
+    stands (record
+    { session = 6
+    ; lines = (3, 0, 0, 0) ∷ (2, 0, 0, 0) ∷ (2, 0, 0, 0) ∷ (2, 0, 0, 0) ∷ []
+    ; securities = (4, 1, 9) ∷ []
+    ; cash = []
+    ; agents = (1, pos 19000, pos 200) ∷ (2, negsuc 18999, negsuc 199) ∷ [] }) ∷
+    [] }
+
+abbrev pub day-2 : Day
+day-2 = record
+  { book = book 10 1000
+    (asset 1000000 0 1010 ∷ asset 900000 50 940 ∷ [])
+    (seller 1 1 1 1 5 ∷ buyer 1 2 1 1 3 ∷ buyer 2 1 1 1 4 ∷ seller 3 1 2 1 4 ∷ buyer 4 1 3 2 2 ∷ [])
+  ; places = 20; securities = (6, 2); cash = (3, 1)
   ; placed = record { side = Securities; account = 4; asset = 1; amount = 40 } ∷ []
   ; asked = asks (call.End) ∷ asks (call.End) ∷ asks (call.Pair) ∷ asks (call.Take 3 1 1) ∷ asks (call.End) ∷ asks (call.Take 3 1 1) ∷ tell ∷
     asks (call.Credit Cash 1 0 38000) ∷ asks (call.SettleLine 3) ∷ asks (call.SettleLine 4) ∷ asks (call.Close) ∷ tell ∷ []
@@ -34,8 +59,8 @@ day-1 = record
     ; agents = (1, pos 19000, pos 200) ∷ (2, negsuc 18999, negsuc 199) ∷ [] }) ∷
     [] }
 
-abbrev pub day-2 : Day
-day-2 = record
+abbrev pub day-3 : Day
+day-3 = record
   { book = book 10 1000
     (asset 1000000 0 1010 ∷ asset 900000 50 940 ∷ [])
     (seller 1 1 1 1 5 ∷ buyer 1 2 1 1 3 ∷ buyer 2 1 1 1 4 ∷ seller 3 1 2 1 4 ∷ buyer 4 1 3 2 2 ∷ [])
@@ -59,8 +84,8 @@ day-2 = record
     ; agents = (1, pos 19000, pos 200) ∷ (2, negsuc 18999, negsuc 199) ∷ [] }) ∷
     [] }
 
-abbrev pub day-3 : Day
-day-3 = record
+abbrev pub day-4 : Day
+day-4 = record
   { book = book 10 1000
     (asset 1000000 0 1010 ∷ asset 900000 50 940 ∷ [])
     (seller 1 1 1 1 5 ∷ buyer 1 2 1 1 3 ∷ buyer 2 1 1 1 4 ∷ seller 3 1 2 1 4 ∷ buyer 4 1 3 2 2 ∷ [])
@@ -86,8 +111,8 @@ day-3 = record
     ; agents = (1, pos 19000, pos 200) ∷ (2, negsuc 18999, negsuc 199) ∷ [] }) ∷
     refused 8 ∷ [] }
 
-abbrev pub day-4 : Day
-day-4 = record
+abbrev pub day-5 : Day
+day-5 = record
   { book = book 10 1000
     (asset 1000000 0 1010 ∷ asset 900000 50 940 ∷ [])
     (seller 1 1 1 1 5 ∷ buyer 1 2 1 1 3 ∷ buyer 2 1 1 1 4 ∷ seller 3 1 2 1 4 ∷ buyer 4 1 3 2 2 ∷ [])
@@ -121,8 +146,8 @@ day-4 = record
     ; agents = (1, pos 19000, pos 0) ∷ (2, negsuc 18999, pos 0) ∷ [] }) ∷
     [] }
 
-abbrev pub day-5 : Day
-day-5 = record
+abbrev pub day-6 : Day
+day-6 = record
   { book = book 10 1000
     (asset 1000000 0 1010 ∷ asset 900000 50 940 ∷ [])
     (seller 1 1 1 1 5 ∷ buyer 1 2 1 1 3 ∷ buyer 2 1 1 1 4 ∷ seller 3 1 2 1 4 ∷ buyer 4 1 3 2 2 ∷ [])
@@ -153,8 +178,8 @@ day-5 = record
     ; agents = (1, pos 19000, pos 200) ∷ (2, negsuc 18999, negsuc 199) ∷ [] }) ∷
     [] }
 
-abbrev pub day-6 : Day
-day-6 = record
+abbrev pub day-7 : Day
+day-7 = record
   { book = book 10 1000
     (asset 1000000 0 1010 ∷ asset 900000 50 940 ∷ [])
     (seller 1 1 1 1 5 ∷ buyer 1 2 1 1 3 ∷ buyer 2 1 1 1 4 ∷ seller 3 1 2 1 4 ∷ buyer 4 1 3 2 2 ∷ [])
@@ -177,8 +202,8 @@ day-6 = record
     ; agents = (1, pos 19000, pos 0) ∷ (2, negsuc 18999, pos 0) ∷ [] }) ∷
     refused 8 ∷ [] }
 
-abbrev pub day-7 : Day
-day-7 = record
+abbrev pub day-8 : Day
+day-8 = record
   { book = book 1 100
     (asset 1000000 0 107 ∷ [])
     (buyer 1 1 1 63 2 ∷ seller 2 1 2 64 2 ∷ [])
@@ -194,32 +219,6 @@ day-7 = record
     ; cash = (0, 0, 200) ∷ []
     ; agents = (63, negsuc 199, pos 0) ∷ (64, pos 200, pos 0) ∷ [] }) ∷
     ok ∷
-    stands (record
-    { session = 6
-    ; lines = (2, 2, 2, 0) ∷ []
-    ; securities = (1, 0, 2) ∷ []
-    ; cash = (64, 0, 200) ∷ []
-    ; agents = (63, negsuc 199, pos 0) ∷ (64, pos 200, pos 0) ∷ [] }) ∷
-    [] }
-
-abbrev pub day-8 : Day
-day-8 = record
-  { book = book 1 100
-    (asset 1000000 0 107 ∷ [])
-    (buyer 1 1 1 63 2 ∷ seller 2 1 2 64 2 ∷ [])
-  ; places = 8; securities = (3, 1); cash = (65, 1)
-  ; placed = record { side = Securities; account = 2; asset = 0; amount = 2 } ∷ record { side = Cash; account = 63; asset = 0; amount = 200 } ∷ []
-  ; asked = asks (call.End) ∷ asks (call.End) ∷ asks (call.Pair) ∷ asks (call.Take 2 1 0) ∷ asks (call.Draw 63) ∷ asks (call.Draw 64) ∷ asks (call.Draw 65) ∷
-    asks (call.Draw 0) ∷ tell ∷ asks (call.End) ∷ asks (call.Credit Cash 65 0 1) ∷ asks (call.SettleLine 1) ∷ asks (call.SettleLine 2) ∷
-    asks (call.Close) ∷ tell ∷ []
-  ; told = ok ∷ ok ∷ ok ∷ counts 1 ∷ counts 2 ∷ ok ∷ refused 13 ∷ refused 13 ∷ refused 13 ∷
-    stands (record
-    { session = 4
-    ; lines = (2, 2, 0, 0) ∷ []
-    ; securities = (0, 0, 2) ∷ []
-    ; cash = (0, 0, 200) ∷ []
-    ; agents = (63, negsuc 199, pos 0) ∷ (64, pos 200, pos 0) ∷ [] }) ∷
-    ok ∷ refused-by Cash 20 ∷ counts 2 ∷ refused 13 ∷ ok ∷
     stands (record
     { session = 6
     ; lines = (2, 2, 2, 0) ∷ []

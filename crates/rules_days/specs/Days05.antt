@@ -16,6 +16,32 @@ day-1 = record
     (buyer 1 1 1 1 1000000 ∷ seller 2 1 2 2 1000000 ∷ [])
   ; places = 8; securities = (3, 1); cash = (3, 1)
   ; placed = record { side = Securities; account = 2; asset = 0; amount = 1000000000000000000 } ∷
+    record { side = Cash; account = 1; asset = 0; amount = 210000000000000000 } ∷ []
+  ; asked = asks (call.End) ∷ asks (call.End) ∷ asks (call.Pair) ∷ asks (call.Credit Securities 1 0 1) ∷ asks (call.Take 2 1 0) ∷ asks (call.Draw 1) ∷ tell ∷
+    asks (call.SettleWhole) ∷ tell ∷ []
+  ; told = ok ∷ ok ∷ ok ∷ counts 1 ∷ refused-by Securities 25 ∷ counts 1000000 ∷ ok ∷
+    stands (record
+    { session = 4
+    ; lines = (1000000, 1000000, 0, 0) ∷ []
+    ; securities = (0, 0, 1000000000) ∷ (2, 0, 999999999000000000) ∷ []
+    ; cash = (0, 0, 210000000000000000) ∷ []
+    ; agents = (1, negsuc 209999999999999999, pos 0) ∷ (2, pos 210000000000000000, pos 0) ∷ [] }) ∷
+    ok ∷
+    stands (record
+    { session = 6
+    ; lines = (1000000, 1000000, 1000000, 0) ∷ []
+    ; securities = (1, 0, 1000000000) ∷ (2, 0, 999999999000000000) ∷ []
+    ; cash = (2, 0, 210000000000000000) ∷ []
+    ; agents = (1, negsuc 209999999999999999, pos 0) ∷ (2, pos 210000000000000000, pos 0) ∷ [] }) ∷
+    [] }
+
+abbrev pub day-2 : Day
+day-2 = record
+  { book = book 1000 100000000
+    (asset 2000000 10000000 1 ∷ [])
+    (buyer 1 1 1 1 1000000 ∷ seller 2 1 2 2 1000000 ∷ [])
+  ; places = 8; securities = (3, 1); cash = (3, 1)
+  ; placed = record { side = Securities; account = 2; asset = 0; amount = 1000000000000000000 } ∷
     record { side = Cash; account = 1; asset = 0; amount = 1000000000000000000 } ∷ []
   ; asked = asks (call.End) ∷ asks (call.End) ∷ asks (call.Pair) ∷ asks (call.Credit Securities 1 0 1) ∷ asks (call.Take 2 1 0) ∷ asks (call.Draw 1) ∷ tell ∷
     asks (call.End) ∷ asks (call.SettleLine 1) ∷ asks (call.Close) ∷ tell ∷ []
@@ -35,8 +61,8 @@ day-1 = record
     ; agents = (1, negsuc 209999999999999999, pos 0) ∷ (2, pos 210000000000000000, pos 0) ∷ [] }) ∷
     [] }
 
-abbrev pub day-2 : Day
-day-2 = record
+abbrev pub day-3 : Day
+day-3 = record
   { book = book 1000 100000000
     (asset 2000000 10000000 210000000 ∷ [])
     (buyer 1 1 1 1 1000000 ∷ seller 2 1 2 2 1000000 ∷ [])
@@ -61,8 +87,8 @@ day-2 = record
     ; agents = (1, negsuc 209999999999999999, pos 0) ∷ (2, pos 210000000000000000, pos 0) ∷ [] }) ∷
     [] }
 
-abbrev pub day-3 : Day
-day-3 = record
+abbrev pub day-4 : Day
+day-4 = record
   { book = book 1000 100000000
     (asset 2000000 10000000 210000000 ∷ [])
     (buyer 1 1 1 1 1000000 ∷ seller 2 1 2 2 1000000 ∷ [])
@@ -87,8 +113,8 @@ day-3 = record
     ; agents = (1, negsuc 209999999999999999, pos 0) ∷ (2, pos 210000000000000000, pos 0) ∷ [] }) ∷
     [] }
 
-abbrev pub day-4 : Day
-day-4 = record
+abbrev pub day-5 : Day
+day-5 = record
   { book = book 1000 100000000
     (asset 2000000 10000000 210000000 ∷ [])
     (buyer 1 1 1 1 1000000 ∷ seller 2 1 2 2 1000000 ∷ [])
@@ -113,8 +139,8 @@ day-4 = record
     ; agents = (1, negsuc 209999999999999999, pos 0) ∷ (2, pos 210000000000000000, pos 0) ∷ [] }) ∷
     [] }
 
-abbrev pub day-5 : Day
-day-5 = record
+abbrev pub day-6 : Day
+day-6 = record
   { book = book 10 1000
     (asset 1000000 0 1010 ∷ asset 900000 50 940 ∷ [])
     (seller 1 1 1 1 5 ∷ buyer 1 2 1 1 3 ∷ buyer 2 1 1 1 4 ∷ seller 3 1 2 1 4 ∷ buyer 4 1 3 2 2 ∷ [])
@@ -145,8 +171,8 @@ day-5 = record
     ; agents = (1, pos 19000, pos 0) ∷ (2, negsuc 18999, pos 0) ∷ [] }) ∷
     [] }
 
-abbrev pub day-6 : Day
-day-6 = record
+abbrev pub day-7 : Day
+day-7 = record
   { book = book 10 100
     (asset 900000 50 130 ∷ asset 1234567 8457518 8457641 ∷ asset 1234567 50 173 ∷ [])
     (buyer 112 4 720 40 6 ∷ buyer 112 11 720 40 3 ∷ buyer 112 168011 720 40 2 ∷ seller 193 416616 720 40 4 ∷ buyer 265 10 330 4 1 ∷ buyer 816 7 330 4 3 ∷
@@ -186,8 +212,8 @@ day-6 = record
     ; agents = (4, pos 11780, pos 100) ∷ (40, negsuc 11779, negsuc 99) ∷ [] }) ∷
     [] }
 
-abbrev pub day-7 : Day
-day-7 = record
+abbrev pub day-8 : Day
+day-8 = record
   { book = book 1 1000
     (asset 2000000 216 2216 ∷ [])
     (seller 292 2 593 32 2 ∷ buyer 292 3 593 32 2 ∷ [])
@@ -230,27 +256,6 @@ day-7 = record
     ; cash = (31, 0, 10) ∷ (32, 0, 8863) ∷ []
     ; agents = [] }) ∷
     [] }
-
-abbrev pub day-8 : Day
-day-8 = record
-  { book = book 1 76667459
-    (asset 900000 8581147 77487587 ∷ [])
-    (seller 258 8 945 18 10 ∷ buyer 590 3 945 18 6 ∷ buyer 874 2 945 18 5 ∷ seller 874 720626 945 18 1 ∷ [])
-  ; places = 16; securities = (6, 1); cash = (20, 2)
-  ; placed = record { side = Securities; account = 2; asset = 0; amount = 5 } ∷ []
-  ; asked = asks (call.Notice (speaker.Clearing 945) 874 720626 0 5) ∷ asks (call.End) ∷ asks (call.Notice (speaker.Member 874) 874 720626 4294967297 1) ∷
-    asks (call.SettleLine 1) ∷ asks (call.Credit Cash 4 1 1) ∷ asks (call.Notice (speaker.Clearing 945) 258 8 0 1) ∷
-    cramped (part.Register Securities) (call.End) ∷ asks (call.Pair) ∷ asks (call.Close) ∷ asks (call.Pair) ∷ asks (call.Take 258 8 1) ∷
-    asks (call.Take 874 2 4) ∷ asks (call.Take 999 3 3) ∷ asks (call.Take 590 3 0) ∷ asks (call.Draw 18) ∷ asks (call.Draw 18) ∷
-    asks (call.Take 258 8 0) ∷ tell ∷ []
-  ; told = ok ∷ refused 12 ∷ ok ∷ refused 9 ∷ refused 8 ∷ ok ∷ ok ∷ refused-by Securities 15 ∷ refused 8 ∷ refused 8 ∷ refused 8 ∷ refused 8 ∷ refused 8 ∷
-    refused 8 ∷ refused 8 ∷ refused 8 ∷ refused 8 ∷ refused 8 ∷
-    stands (record
-    { session = 2
-    ; lines = []
-    ; securities = (2, 0, 5) ∷ []
-    ; cash = (4, 1, 1) ∷ []
-    ; agents = [] }) ∷ [] }
 
 abbrev pub days : List Day
 days = day-1 ∷ day-2 ∷ day-3 ∷ day-4 ∷ day-5 ∷ day-6 ∷ day-7 ∷ day-8 ∷ []

@@ -11,6 +11,27 @@ use Rattle.rules_days.specs.Trials.{Day, asks, cramped, tell, ok, counts, refu
 
 abbrev pub day-1 : Day
 day-1 = record
+  { book = book 1 76667459
+    (asset 900000 8581147 77487587 ∷ [])
+    (seller 258 8 945 18 10 ∷ buyer 590 3 945 18 6 ∷ buyer 874 2 945 18 5 ∷ seller 874 720626 945 18 1 ∷ [])
+  ; places = 16; securities = (6, 1); cash = (20, 2)
+  ; placed = record { side = Securities; account = 2; asset = 0; amount = 5 } ∷ []
+  ; asked = asks (call.Notice (speaker.Clearing 945) 874 720626 0 5) ∷ asks (call.End) ∷ asks (call.Notice (speaker.Member 874) 874 720626 4294967297 1) ∷
+    asks (call.SettleLine 1) ∷ asks (call.Credit Cash 4 1 1) ∷ asks (call.Notice (speaker.Clearing 945) 258 8 0 1) ∷
+    cramped (part.Register Securities) (call.End) ∷ asks (call.Pair) ∷ asks (call.Close) ∷ asks (call.Pair) ∷ asks (call.Take 258 8 1) ∷
+    asks (call.Take 874 2 4) ∷ asks (call.Take 999 3 3) ∷ asks (call.Take 590 3 0) ∷ asks (call.Draw 18) ∷ asks (call.Draw 18) ∷
+    asks (call.Take 258 8 0) ∷ tell ∷ []
+  ; told = ok ∷ refused 12 ∷ ok ∷ refused 9 ∷ refused 8 ∷ ok ∷ ok ∷ refused-by Securities 15 ∷ refused 8 ∷ refused 8 ∷ refused 8 ∷ refused 8 ∷ refused 8 ∷
+    refused 8 ∷ refused 8 ∷ refused 8 ∷ refused 8 ∷ refused 8 ∷
+    stands (record
+    { session = 2
+    ; lines = []
+    ; securities = (2, 0, 5) ∷ []
+    ; cash = (4, 1, 1) ∷ []
+    ; agents = [] }) ∷ [] }
+
+abbrev pub day-2 : Day
+day-2 = record
   { book = book 58 1000
     (asset 100000 3744 3844 ∷ asset 900000 50 7830 ∷ asset 2000000 50 2050 ∷ [])
     (buyer 302 546039 806 12 2 ∷ seller 459 4 806 12 7 ∷ buyer 699 643444 806 12 5 ∷ [])
@@ -42,8 +63,8 @@ day-1 = record
     ; agents = [] }) ∷
     [] }
 
-abbrev pub day-2 : Day
-day-2 = record
+abbrev pub day-3 : Day
+day-3 = record
   { book = book 10 100000000
     (asset 1234567 3288 123459988 ∷ asset 2000000 0 200000000 ∷ asset 900000 4234 90004241 ∷ asset 2000000 50 200000050 ∷ [])
     (buyer 794 1 6 55 3 ∷ buyer 794 3 6 55 2 ∷ buyer 794 9 6 55 1 ∷ buyer 794 12 6 55 3 ∷ seller 794 13 6 55 9 ∷ seller 794 675166 6 55 1 ∷
@@ -79,8 +100,8 @@ day-2 = record
     ; agents = [] }) ∷
     [] }
 
-abbrev pub day-3 : Day
-day-3 = record
+abbrev pub day-4 : Day
+day-4 = record
   { book = book 976 89193606
     (asset 100000 3276481 12255211 ∷ asset 2000000 8012907 186400126 ∷ asset 1000000 5058692 94311519 ∷ [])
     (buyer 169 1 948 2 5 ∷ buyer 169 2 948 2 2 ∷ buyer 169 3 948 2 2 ∷ seller 169 4 948 2 6 ∷ buyer 169 6 948 2 5 ∷ seller 169 930474 948 2 8 ∷ [])
@@ -111,8 +132,8 @@ day-3 = record
     ; agents = [] }) ∷
     [] }
 
-abbrev pub day-4 : Day
-day-4 = record
+abbrev pub day-5 : Day
+day-5 = record
   { book = book 420 1000
     (asset 1000000 0 1000 ∷ asset 900000 50 950 ∷ asset 1234567 50 1 ∷ [])
     (seller 604 2 853 6 1 ∷ buyer 604 6 853 6 2 ∷ seller 604 12 853 6 1 ∷ buyer 604 13 853 6 3 ∷ buyer 604 14 853 6 2 ∷ seller 604 782409 853 6 3 ∷
@@ -147,8 +168,8 @@ day-4 = record
     ; agents = [] }) ∷
     [] }
 
-abbrev pub day-5 : Day
-day-5 = record
+abbrev pub day-6 : Day
+day-6 = record
   { book = book 10 1000
     (asset 1000000 0 1010 ∷ asset 900000 50 940 ∷ [])
     (seller 1 1 1 1 5 ∷ buyer 1 2 1 1 3 ∷ buyer 2 1 1 1 4 ∷ seller 3 1 2 1 4 ∷ buyer 4 1 3 2 2 ∷ [])
@@ -183,8 +204,8 @@ day-5 = record
     ; agents = (1, pos 19000, pos 200) ∷ (2, negsuc 18999, negsuc 199) ∷ [] }) ∷
     [] }
 
-abbrev pub day-6 : Day
-day-6 = record
+abbrev pub day-7 : Day
+day-7 = record
   { book = book 1 100
     (asset 1234567 7174 7304 ∷ asset 2000000 50 257 ∷ asset 1000000 50 1 ∷ [])
     (buyer 134 2 599 16 450 ∷ seller 134 7 599 16 114 ∷ seller 155 9 62 16 53 ∷ buyer 155 12 62 16 216 ∷ seller 296 8 599 16 541 ∷
@@ -223,8 +244,8 @@ day-6 = record
     ; agents = [] }) ∷
     [] }
 
-abbrev pub day-7 : Day
-day-7 = record
+abbrev pub day-8 : Day
+day-8 = record
   { book = book 1000 40207554
     (asset 2000000 50 80415158 ∷ asset 900000 862 36187661 ∷ [])
     (buyer 185 1 9 34 1 ∷ buyer 286 2 557 50 3 ∷ seller 778 334135 9 34 1 ∷ seller 778 428268 9 34 3 ∷ [])
@@ -253,50 +274,6 @@ day-7 = record
     ; securities = (1, 1, 1000) ∷ (2, 0, 4000) ∷ (3, 1, 1000) ∷ (4, 0, 3000) ∷ (4, 1, 3001) ∷ []
     ; cash = (34, 0, 241245474000) ∷ []
     ; agents = (34, pos 241245474000, pos 0) ∷ (50, negsuc 241245473999, pos 0) ∷ [] }) ∷
-    [] }
-
-abbrev pub day-8 : Day
-day-8 = record
-  { book = book 10 6884595
-    (asset 1234567 1810 8501311 ∷ asset 100000 3755 692222 ∷ asset 1587262 7140 10934796 ∷ [])
-    (buyer 400 860602 272 10 1 ∷ buyer 898 2 272 10 4 ∷ seller 898 159451 272 10 5 ∷ [])
-  ; places = 12; securities = (4, 3); cash = (11, 1)
-  ; placed = record { side = Securities; account = 1; asset = 2; amount = 11 } ∷ record { side = Securities; account = 1; asset = 0; amount = 11 } ∷
-    record { side = Securities; account = 1; asset = 1; amount = 10 } ∷ []
-  ; asked = asks (call.Notice (speaker.Clearing 272) 898 159451 0 1) ∷ asks (call.Notice (speaker.Clearing 272) 898 159451 2 0) ∷
-    asks (call.Notice (speaker.Clearing 272) 18446744073709551615 159451 1 4) ∷ asks (call.Notice (speaker.Member 898) 898 159451 0 5) ∷
-    asks (call.Notice (speaker.Clearing 272) 898 159451 2 1) ∷ asks (call.End) ∷ asks (call.Notice (speaker.Clearing 272) 5 159451 2 1) ∷
-    asks (call.Notice (speaker.Member 999) 898 159451 1 4294967297) ∷ asks (call.Take 898 999 0) ∷
-    asks (call.Notice (speaker.Member 898) 898 159451 0 5) ∷ asks (call.Close) ∷ asks (call.End) ∷
-    asks (call.Notice (speaker.Member 898) 898 159451 0 1) ∷ asks (call.Pair) ∷ asks (call.Credit Securities 3 0 13) ∷ asks (call.Draw 10) ∷
-    asks (call.Take 898 159451 2) ∷ asks (call.Take 0 4294967297 0) ∷ asks (call.Take 898 159451 0) ∷ asks (call.Take 898 159451 0) ∷
-    asks (call.Credit Securities 3 2 40) ∷ cramped (part.Register Cash) (call.Take 898 159451 2) ∷ asks (call.Credit Securities 3 0 7) ∷
-    asks (call.Take 898 159451 0) ∷ tell ∷ asks (call.SettleWhole) ∷ asks (call.End) ∷ asks (call.Credit Cash 10 0 85013040) ∷
-    asks (call.SettleLine 1) ∷ asks (call.Notice (speaker.Clearing 272) 898 159451 0 2) ∷ asks (call.Take 898 159451 2) ∷ asks (call.End) ∷
-    asks (call.Credit Cash 10 0 24334919) ∷ cramped part.LineTable (call.SettleLine 3) ∷ tell ∷ asks (call.Close) ∷ asks (call.Draw 10) ∷
-    asks (call.Pair) ∷ asks (call.Notice (speaker.Member 898) 898 159451 0 1) ∷ tell ∷ []
-  ; told = ok ∷ ok ∷ refused 12 ∷ refused 10 ∷ refused 12 ∷ ok ∷ ok ∷ refused 10 ∷ refused 9 ∷ refused 8 ∷ refused 9 ∷ refused 8 ∷ ok ∷ refused 8 ∷ counts 3 ∷
-    ok ∷ refused 13 ∷ refused-by Securities 24 ∷ refused 13 ∷ counts 1 ∷ refused 13 ∷ ok ∷ refused-by Cash 15 ∷ ok ∷ refused 13 ∷
-    stands (record
-    { session = 4
-    ; lines = (1, 1, 0, 0) ∷ (3, 0, 0, 0) ∷ (1, 0, 0, 0) ∷ []
-    ; securities = (0, 0, 10) ∷ (1, 0, 11) ∷ (1, 1, 10) ∷ (1, 2, 11) ∷ (3, 0, 10) ∷ (3, 2, 40) ∷ []
-    ; cash = []
-    ; agents = [] }) ∷
-    refused 14 ∷ ok ∷ ok ∷ counts 1 ∷ refused 8 ∷ counts 4 ∷ refused 8 ∷ ok ∷ refused 15 ∷
-    stands (record
-    { session = 5
-    ; lines = (1, 1, 1, 0) ∷ (3, 3, 0, 0) ∷ (1, 1, 0, 0) ∷ []
-    ; securities = (0, 2, 40) ∷ (1, 0, 11) ∷ (1, 1, 10) ∷ (1, 2, 11) ∷ (2, 0, 10) ∷ (3, 0, 10) ∷ []
-    ; cash = (10, 0, 109347959) ∷ []
-    ; agents = [] }) ∷
-    ok ∷ refused 8 ∷ refused 8 ∷ refused 8 ∷
-    stands (record
-    { session = 6
-    ; lines = (1, 1, 1, 0) ∷ (3, 3, 0, 3) ∷ (1, 1, 0, 1) ∷ []
-    ; securities = (1, 0, 11) ∷ (1, 1, 10) ∷ (1, 2, 11) ∷ (2, 0, 10) ∷ (3, 0, 10) ∷ (3, 2, 40) ∷ []
-    ; cash = (10, 0, 109347959) ∷ []
-    ; agents = [] }) ∷
     [] }
 
 abbrev pub days : List Day

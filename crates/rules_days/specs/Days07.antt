@@ -11,6 +11,50 @@ use Rattle.rules_days.specs.Trials.{Day, asks, cramped, tell, ok, counts, refu
 
 abbrev pub day-1 : Day
 day-1 = record
+  { book = book 10 6884595
+    (asset 1234567 1810 8501311 ∷ asset 100000 3755 692222 ∷ asset 1587262 7140 10934796 ∷ [])
+    (buyer 400 860602 272 10 1 ∷ buyer 898 2 272 10 4 ∷ seller 898 159451 272 10 5 ∷ [])
+  ; places = 12; securities = (4, 3); cash = (11, 1)
+  ; placed = record { side = Securities; account = 1; asset = 2; amount = 11 } ∷ record { side = Securities; account = 1; asset = 0; amount = 11 } ∷
+    record { side = Securities; account = 1; asset = 1; amount = 10 } ∷ []
+  ; asked = asks (call.Notice (speaker.Clearing 272) 898 159451 0 1) ∷ asks (call.Notice (speaker.Clearing 272) 898 159451 2 0) ∷
+    asks (call.Notice (speaker.Clearing 272) 18446744073709551615 159451 1 4) ∷ asks (call.Notice (speaker.Member 898) 898 159451 0 5) ∷
+    asks (call.Notice (speaker.Clearing 272) 898 159451 2 1) ∷ asks (call.End) ∷ asks (call.Notice (speaker.Clearing 272) 5 159451 2 1) ∷
+    asks (call.Notice (speaker.Member 999) 898 159451 1 4294967297) ∷ asks (call.Take 898 999 0) ∷
+    asks (call.Notice (speaker.Member 898) 898 159451 0 5) ∷ asks (call.Close) ∷ asks (call.End) ∷
+    asks (call.Notice (speaker.Member 898) 898 159451 0 1) ∷ asks (call.Pair) ∷ asks (call.Credit Securities 3 0 13) ∷ asks (call.Draw 10) ∷
+    asks (call.Take 898 159451 2) ∷ asks (call.Take 0 4294967297 0) ∷ asks (call.Take 898 159451 0) ∷ asks (call.Take 898 159451 0) ∷
+    asks (call.Credit Securities 3 2 40) ∷ cramped (part.Register Cash) (call.Take 898 159451 2) ∷ asks (call.Credit Securities 3 0 7) ∷
+    asks (call.Take 898 159451 0) ∷ tell ∷ asks (call.SettleWhole) ∷ asks (call.End) ∷ asks (call.Credit Cash 10 0 85013040) ∷
+    asks (call.SettleLine 1) ∷ asks (call.Notice (speaker.Clearing 272) 898 159451 0 2) ∷ asks (call.Take 898 159451 2) ∷ asks (call.End) ∷
+    asks (call.Credit Cash 10 0 24334919) ∷ cramped part.LineTable (call.SettleLine 3) ∷ tell ∷ asks (call.Close) ∷ asks (call.Draw 10) ∷
+    asks (call.Pair) ∷ asks (call.Notice (speaker.Member 898) 898 159451 0 1) ∷ tell ∷ []
+  ; told = ok ∷ ok ∷ refused 12 ∷ refused 10 ∷ refused 12 ∷ ok ∷ ok ∷ refused 10 ∷ refused 9 ∷ refused 8 ∷ refused 9 ∷ refused 8 ∷ ok ∷ refused 8 ∷ counts 3 ∷
+    ok ∷ refused 13 ∷ refused-by Securities 24 ∷ refused 13 ∷ counts 1 ∷ refused 13 ∷ ok ∷ refused-by Cash 15 ∷ ok ∷ refused 13 ∷
+    stands (record
+    { session = 4
+    ; lines = (1, 1, 0, 0) ∷ (3, 0, 0, 0) ∷ (1, 0, 0, 0) ∷ []
+    ; securities = (0, 0, 10) ∷ (1, 0, 11) ∷ (1, 1, 10) ∷ (1, 2, 11) ∷ (3, 0, 10) ∷ (3, 2, 40) ∷ []
+    ; cash = []
+    ; agents = [] }) ∷
+    refused 14 ∷ ok ∷ ok ∷ counts 1 ∷ refused 8 ∷ counts 4 ∷ refused 8 ∷ ok ∷ refused 15 ∷
+    stands (record
+    { session = 5
+    ; lines = (1, 1, 1, 0) ∷ (3, 3, 0, 0) ∷ (1, 1, 0, 0) ∷ []
+    ; securities = (0, 2, 40) ∷ (1, 0, 11) ∷ (1, 1, 10) ∷ (1, 2, 11) ∷ (2, 0, 10) ∷ (3, 0, 10) ∷ []
+    ; cash = (10, 0, 109347959) ∷ []
+    ; agents = [] }) ∷
+    ok ∷ refused 8 ∷ refused 8 ∷ refused 8 ∷
+    stands (record
+    { session = 6
+    ; lines = (1, 1, 1, 0) ∷ (3, 3, 0, 3) ∷ (1, 1, 0, 1) ∷ []
+    ; securities = (1, 0, 11) ∷ (1, 1, 10) ∷ (1, 2, 11) ∷ (2, 0, 10) ∷ (3, 0, 10) ∷ (3, 2, 40) ∷ []
+    ; cash = (10, 0, 109347959) ∷ []
+    ; agents = [] }) ∷
+    [] }
+
+abbrev pub day-2 : Day
+day-2 = record
   { book = book 1 100000000
     (asset 1743371 50 174337150 ∷ asset 100000 50 9965873 ∷ asset 1234567 2185 123458885 ∷ asset 1000000 650 100000650 ∷ [])
     (buyer 283 1 956 33 1 ∷ buyer 362 1 956 33 1 ∷ seller 792 3 956 33 2 ∷ [])
@@ -42,8 +86,8 @@ day-1 = record
     ; agents = [] }) ∷
     [] }
 
-abbrev pub day-2 : Day
-day-2 = record
+abbrev pub day-3 : Day
+day-3 = record
   { book = book 883 100000000
     (asset 100000 1325 9997099 ∷ asset 1000543 2065297 102119604 ∷ asset 900000 3845187 93845187 ∷ [])
     (buyer 376 3 385 20 1 ∷ buyer 872 79011 43 20 2 ∷ seller 872 293886 43 20 4 ∷ buyer 974 7 43 20 1 ∷ [])
@@ -76,8 +120,8 @@ day-2 = record
     ; agents = [] }) ∷
     [] }
 
-abbrev pub day-3 : Day
-day-3 = record
+abbrev pub day-4 : Day
+day-4 = record
   { book = book 1000 100000000
     (asset 1234567 5121209 128577909 ∷ asset 2000000 9559 200009549 ∷ asset 900000 7781 89928117 ∷ asset 900000 50 90000057 ∷ [])
     (buyer 991 3 816 39 1 ∷ seller 991 19496 816 39 1 ∷ [])
@@ -102,8 +146,8 @@ day-3 = record
     ; agents = [] }) ∷
     [] }
 
-abbrev pub day-4 : Day
-day-4 = record
+abbrev pub day-5 : Day
+day-5 = record
   { book = book 889 1000
     (asset 1000000 50 1050 ∷ [])
     (buyer 608 12 253 61 6 ∷ buyer 710 12 253 61 3 ∷ buyer 740 1 253 61 3 ∷ buyer 740 6 253 61 4 ∷ buyer 740 13 253 61 1 ∷ seller 740 71273 253 61 20 ∷
@@ -135,8 +179,8 @@ day-4 = record
     ; agents = [] }) ∷
     [] }
 
-abbrev pub day-5 : Day
-day-5 = record
+abbrev pub day-6 : Day
+day-6 = record
   { book = book 1000 100
     (asset 900000 1267 1357 ∷ asset 430251 4085896 4085929 ∷ asset 900000 50 130 ∷ asset 1000000 3801 3901 ∷ [])
     (buyer 63 71483 633 10 1 ∷ seller 90 2 844 10 1 ∷ seller 90 6 844 10 1 ∷ buyer 258 10 403 10 1 ∷ seller 882 14 633 10 1 ∷ seller 899 1 633 10 1 ∷
@@ -190,8 +234,8 @@ day-5 = record
     ; agents = [] }) ∷
     [] }
 
-abbrev pub day-6 : Day
-day-6 = record
+abbrev pub day-7 : Day
+day-7 = record
   { book = book 10 105
     (asset 1000000 8162571 8162683 ∷ [])
     (seller 265 5 692 27 21 ∷ buyer 618 6 692 27 3 ∷ buyer 618 508782 692 27 6 ∷ buyer 751 1 692 27 2 ∷ buyer 751 151448 692 27 4 ∷
@@ -214,8 +258,8 @@ day-6 = record
     ; agents = [] }) ∷
     [] }
 
-abbrev pub day-7 : Day
-day-7 = record
+abbrev pub day-8 : Day
+day-8 = record
   { book = book 1000 105
     (asset 1000000 4469918 4470013 ∷ [])
     (seller 176 1 874 4 1 ∷ buyer 176 3 874 4 1 ∷ [])
@@ -243,41 +287,6 @@ day-7 = record
     ; lines = (1, 1, 1, 0) ∷ []
     ; securities = (1, 0, 1000) ∷ (2, 0, 2000) ∷ []
     ; cash = (1, 0, 1) ∷ (4, 0, 999999999999246788) ∷ []
-    ; agents = [] }) ∷
-    [] }
-
-abbrev pub day-8 : Day
-day-8 = record
-  { book = book 10 100
-    (asset 1234567 50 173 ∷ [])
-    (buyer 678 1 377 24 3 ∷ buyer 678 4 377 24 2 ∷ seller 835 4 377 24 2 ∷ buyer 835 5 377 24 1 ∷ seller 835 12 377 24 1 ∷ seller 835 437395 377 24 3 ∷
-    [])
-  ; places = 24; securities = (10, 1); cash = (28, 1)
-  ; placed = record { side = Securities; account = 1; asset = 0; amount = 31 } ∷ []
-  ; asked = asks (call.Notice (speaker.Member 835) 835 437395 0 3) ∷ asks (call.Notice (speaker.Clearing 377) 678 1 0 2) ∷
-    asks (call.Notice (speaker.Member 835) 835 12 0 1) ∷ asks (call.Notice (speaker.Member 835) 835 4 0 1) ∷ asks (call.Close) ∷
-    asks (call.Notice (speaker.Member 835) 835 12 0 1) ∷ asks (call.End) ∷ asks (call.Notice (speaker.Member 835) 835 4 0 1) ∷
-    asks (call.Notice (speaker.Clearing 377) 835 437395 0 3) ∷ asks (call.SettleWhole) ∷ asks (call.Draw 24) ∷
-    asks (call.Notice (speaker.Member 678) 835 4 0 2) ∷ asks (call.Take 835 5 5) ∷ asks (call.End) ∷ asks (call.Notice (speaker.Member 835) 835 4 0 2) ∷
-    asks (call.Close) ∷ asks (call.Pair) ∷ asks (call.Credit Securities 6 0 33) ∷ asks (call.Take 835 437395 0) ∷ asks (call.Take 835 12 0) ∷
-    asks (call.Take 835 4 0) ∷ asks (call.Take 835 5 0) ∷ asks (call.Pair) ∷ asks (call.SettleWhole) ∷ asks (call.Draw 0) ∷
-    asks (call.Credit Securities 3 0 20) ∷ asks (call.Take 835 4 0) ∷ asks (call.Credit Securities 5 0 10) ∷ asks (call.Take 835 12 0) ∷
-    asks (call.Credit Securities 6 0 27) ∷ asks (call.Take 835 437395 0) ∷ tell ∷ asks (call.SettleWhole) ∷ tell ∷ []
-  ; told = ok ∷ ok ∷ refused 10 ∷ ok ∷ ok ∷ refused 8 ∷ refused 12 ∷ ok ∷ refused 9 ∷ refused 12 ∷ refused 8 ∷ refused 8 ∷ refused 9 ∷ refused 8 ∷ ok ∷
-    refused 8 ∷ refused 8 ∷ counts 3 ∷ ok ∷ counts 3 ∷ refused-by Securities 24 ∷ refused-by Securities 24 ∷ refused 13 ∷ refused 8 ∷ refused 14 ∷
-    refused 13 ∷ ok ∷ counts 2 ∷ ok ∷ counts 1 ∷ ok ∷ refused 13 ∷
-    stands (record
-    { session = 4
-    ; lines = (1, 1, 0, 0) ∷ (3, 3, 0, 0) ∷ (2, 2, 0, 0) ∷ []
-    ; securities = (0, 0, 60) ∷ (1, 0, 31) ∷ (6, 0, 30) ∷ []
-    ; cash = []
-    ; agents = [] }) ∷
-    ok ∷
-    stands (record
-    { session = 6
-    ; lines = (1, 1, 1, 0) ∷ (3, 3, 3, 0) ∷ (2, 2, 2, 0) ∷ []
-    ; securities = (1, 0, 61) ∷ (2, 0, 20) ∷ (4, 0, 10) ∷ (6, 0, 30) ∷ []
-    ; cash = []
     ; agents = [] }) ∷
     [] }
 

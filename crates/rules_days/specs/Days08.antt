@@ -11,6 +11,41 @@ use Rattle.rules_days.specs.Trials.{Day, asks, cramped, tell, ok, counts, refu
 
 abbrev pub day-1 : Day
 day-1 = record
+  { book = book 10 100
+    (asset 1234567 50 173 ∷ [])
+    (buyer 678 1 377 24 3 ∷ buyer 678 4 377 24 2 ∷ seller 835 4 377 24 2 ∷ buyer 835 5 377 24 1 ∷ seller 835 12 377 24 1 ∷ seller 835 437395 377 24 3 ∷
+    [])
+  ; places = 24; securities = (10, 1); cash = (28, 1)
+  ; placed = record { side = Securities; account = 1; asset = 0; amount = 31 } ∷ []
+  ; asked = asks (call.Notice (speaker.Member 835) 835 437395 0 3) ∷ asks (call.Notice (speaker.Clearing 377) 678 1 0 2) ∷
+    asks (call.Notice (speaker.Member 835) 835 12 0 1) ∷ asks (call.Notice (speaker.Member 835) 835 4 0 1) ∷ asks (call.Close) ∷
+    asks (call.Notice (speaker.Member 835) 835 12 0 1) ∷ asks (call.End) ∷ asks (call.Notice (speaker.Member 835) 835 4 0 1) ∷
+    asks (call.Notice (speaker.Clearing 377) 835 437395 0 3) ∷ asks (call.SettleWhole) ∷ asks (call.Draw 24) ∷
+    asks (call.Notice (speaker.Member 678) 835 4 0 2) ∷ asks (call.Take 835 5 5) ∷ asks (call.End) ∷ asks (call.Notice (speaker.Member 835) 835 4 0 2) ∷
+    asks (call.Close) ∷ asks (call.Pair) ∷ asks (call.Credit Securities 6 0 33) ∷ asks (call.Take 835 437395 0) ∷ asks (call.Take 835 12 0) ∷
+    asks (call.Take 835 4 0) ∷ asks (call.Take 835 5 0) ∷ asks (call.Pair) ∷ asks (call.SettleWhole) ∷ asks (call.Draw 0) ∷
+    asks (call.Credit Securities 3 0 20) ∷ asks (call.Take 835 4 0) ∷ asks (call.Credit Securities 5 0 10) ∷ asks (call.Take 835 12 0) ∷
+    asks (call.Credit Securities 6 0 27) ∷ asks (call.Take 835 437395 0) ∷ tell ∷ asks (call.SettleWhole) ∷ tell ∷ []
+  ; told = ok ∷ ok ∷ refused 10 ∷ ok ∷ ok ∷ refused 8 ∷ refused 12 ∷ ok ∷ refused 9 ∷ refused 12 ∷ refused 8 ∷ refused 8 ∷ refused 9 ∷ refused 8 ∷ ok ∷
+    refused 8 ∷ refused 8 ∷ counts 3 ∷ ok ∷ counts 3 ∷ refused-by Securities 24 ∷ refused-by Securities 24 ∷ refused 13 ∷ refused 8 ∷ refused 14 ∷
+    refused 13 ∷ ok ∷ counts 2 ∷ ok ∷ counts 1 ∷ ok ∷ refused 13 ∷
+    stands (record
+    { session = 4
+    ; lines = (1, 1, 0, 0) ∷ (3, 3, 0, 0) ∷ (2, 2, 0, 0) ∷ []
+    ; securities = (0, 0, 60) ∷ (1, 0, 31) ∷ (6, 0, 30) ∷ []
+    ; cash = []
+    ; agents = [] }) ∷
+    ok ∷
+    stands (record
+    { session = 6
+    ; lines = (1, 1, 1, 0) ∷ (3, 3, 3, 0) ∷ (2, 2, 2, 0) ∷ []
+    ; securities = (1, 0, 61) ∷ (2, 0, 20) ∷ (4, 0, 10) ∷ (6, 0, 30) ∷ []
+    ; cash = []
+    ; agents = [] }) ∷
+    [] }
+
+abbrev pub day-2 : Day
+day-2 = record
   { book = book 1 105
     (asset 900000 0 102 ∷ asset 100000 0 1254 ∷ [])
     (buyer 345 5 210 37 2 ∷ seller 958 4 210 37 6 ∷ buyer 958 5 210 37 2 ∷ buyer 958 6 210 37 2 ∷ [])
@@ -40,8 +75,8 @@ day-1 = record
     ; agents = [] }) ∷
     [] }
 
-abbrev pub day-2 : Day
-day-2 = record
+abbrev pub day-3 : Day
+day-3 = record
   { book = book 1 105
     (asset 100000 1252 1263 ∷ asset 900000 0 85 ∷ [])
     (buyer 342 1 615 39 5 ∷ buyer 342 11 615 39 4 ∷ seller 342 272224 615 39 2 ∷ seller 375 11 615 39 1 ∷ seller 566 8 615 39 7 ∷ buyer 566 12 615 39 1 ∷
@@ -73,8 +108,8 @@ day-2 = record
     ; agents = [] }) ∷
     [] }
 
-abbrev pub day-3 : Day
-day-3 = record
+abbrev pub day-4 : Day
+day-4 = record
   { book = book 1 100
     (asset 1234567 50 180 ∷ asset 900000 3278 3375 ∷ asset 1000000 0 63016 ∷ [])
     (seller 134 6 154 10 3 ∷ buyer 134 7 154 10 1 ∷ seller 502 7 154 10 6 ∷ buyer 502 706943 154 10 3 ∷ buyer 597 715095 604 37 1 ∷
@@ -97,8 +132,8 @@ day-3 = record
     ; agents = [] }) ∷
     [] }
 
-abbrev pub day-4 : Day
-day-4 = record
+abbrev pub day-5 : Day
+day-5 = record
   { book = book 10 1000
     (asset 1000000 0 1010 ∷ asset 900000 50 940 ∷ [])
     (seller 1 1 1 1 5 ∷ buyer 1 2 1 1 3 ∷ buyer 2 1 1 1 4 ∷ seller 3 1 2 1 4 ∷ buyer 4 1 3 2 2 ∷ [])
@@ -137,4 +172,4 @@ day-4 = record
     [] }
 
 abbrev pub days : List Day
-days = day-1 ∷ day-2 ∷ day-3 ∷ day-4 ∷ []
+days = day-1 ∷ day-2 ∷ day-3 ∷ day-4 ∷ day-5 ∷ []
