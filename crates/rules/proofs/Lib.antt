@@ -34,3 +34,5 @@ pub mod FollowedLine
 pub mod FollowedTakes
 pub mod FollowedEnds
 pub mod PostingsFollow
+pub mod SameRegisters
+pub mod WhereItStands

@@ -21,10 +21,16 @@ use Rattle.rules.proofs.Checks.{not-any}
 use Rattle.rules.proofs.Balances.{rows-all}
 
 -- where no check failed, each passed
-passed : {E : Type 0} (cs : List (Bool × E)) → first-failed cs ≡ None → All (λ (x : Bool × E). x .0 ≡ true) cs
+pub passed : {E : Type 0} (cs : List (Bool × E)) → first-failed cs ≡ None → All (λ (x : Bool × E). x .0 ≡ true) cs
 passed [] h = tt
 passed ((true, e) ∷ rest) h = (refl, passed rest h)
 passed ((false, e) ∷ rest) h = absurd (let z : _≡_ {A = ℕ} 0 1 = cc in omega arith)
+
+-- and the other way
+pub none-failed : {E : Type 0} (cs : List (Bool × E)) → All (λ (x : Bool × E). x .0 ≡ true) cs → first-failed cs ≡ None
+none-failed [] a = refl
+none-failed ((true, e) ∷ rest) a = none-failed rest (a .1)
+none-failed ((false, e) ∷ rest) a = absurd (let z : _≡_ {A = ℕ} 0 1 = cc in omega arith)
 
 empty-below : (m : Meaning) (n : ℕ) → house-empty m n ≡ true → (a : ℕ) → a < n → m .balance 0 a ≡ 0
 empty-below m n h = decides-below-and (λ a. eqb (m .balance 0 a) 0) (λ a. m .balance 0 a ≡ 0) (house-empty m) (λ a. decides-eqb (m .balance 0 a) 0) refl (λ _. refl) n .0 h

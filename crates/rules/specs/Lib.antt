@@ -8,3 +8,4 @@ pub mod Cases
 pub mod Premises
 pub mod Postings
 pub mod Ranges
+pub mod Standing

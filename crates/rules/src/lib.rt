@@ -1,6 +1,7 @@
 // The words of an expiry: its sessions, its calls and their answers.
 ghost use Rattle.rules.specs.Law.{Law-holds};
 ghost use Rattle.rules.specs.Postings.{Only-short, Postings-follow};
+ghost use Rattle.rules.specs.Standing.{Room-stays, Refused-stands, Registers-follow, Covered-or-short};
 ghost use Rattle.rules.specs.Ranges.{Sums-in-range};
 ghost use Rattle.rules.specs.Premises.{Example-opens, Opened-stands, Any-calls-stand, Days-are-histories};
 ghost use Rattle.rules.specs.Cases.{Worked-cases};
@@ -54,6 +55,17 @@ pub fn sums_stay_in_range() -> u8
 // the tally tells it after the call.
 pub fn registers_follow_the_tally() -> u8
     ensures postings_do_what_the_tally_tells { λ _. ⌜ Postings-follow ⌝ }
+{
+    0
+}
+
+// Wherever an expiry stands: it has room for its book, it stands after a refused call as it is, its own registers accept
+// the postings of an accepted call and then tell what the tally does, and a due call is covered or short.
+pub fn what_stands_goes_on() -> u8
+    ensures room_is_never_too_small { λ _. ⌜ Room-stays ⌝ }
+    ensures refused_moves_nothing { λ _. ⌜ Refused-stands ⌝ }
+    ensures its_registers_follow_the_tally { λ _. ⌜ Registers-follow ⌝ }
+    ensures short_is_the_only_refusal { λ _. ⌜ Covered-or-short ⌝ }
 {
     0
 }
