@@ -1,47 +1,29 @@
 -- At the end account 0 holds nothing, and every line is finished.
-use mathlib.Core.Path.{_≡_, refl, sym, _∙_, ap}
-use mathlib.Core.Bool.{Bool, true, false, cond, _&&_}
+use mathlib.Core.Path.{_≡_, refl, _∙_, ap}
+use mathlib.Core.Bool.{Bool, true, false, cond}
 use mathlib.Core.Logic.{inl, inr}
-use mathlib.Core.List.{List, [], _∷_, _++_, map}
-use Prim.Native.Nat.{ℕ, zero, suc, _+_, _-_, _*_, _≤_, _<_}
+use mathlib.Core.List.{List, _∷_}
+use Prim.Native.Nat.{ℕ, zero, suc, _+_, _-_, _*_, _<_}
 use native.Mathlib.Omega.{arith}
 use native.Mathlib.Nat.{mul-zero}
-use lib.Dec.{eqb}
 use lib.ListN.{length, getD}
-use Rattle.std.specs.shelf.Lists.{sumBy, All}
-use Rattle.std.specs.declared.option.Option.{Option}
-use Rattle.std.specs.declared.option.Option.the-variants.{Some, None}
+use Rattle.std.specs.shelf.Lists.{All}
 use Rattle.std.proofs.shelf.Elements.{all-weaker, all-getD}
 use Rattle.std.proofs.shelf.Lists.{getD-past}
 use Rattle.std.proofs.shelf.Tests.{cases-lt}
-use Rattle.std.proofs.shelf.Ways.{decides-below-and, decides-eqb}
 use Rattle.pairing.specs.declared.line.Line.{Line}
 use Rattle.rules.specs.declared.session.Session.the-variants.{Closed}
 use Rattle.rules.specs.declared.side.Side.the-variants.{Securities, Cash}
-use Rattle.register.specs.Rules.{Meaning}
-use Rattle.pairing.specs.Lines.{total, of-asset, inside, unsettled}
-use Rattle.rules.specs.Tally.{Opening, Tally, session-number, credited, held, all-held, units, money, no-line}
-use Rattle.rules.specs.Verdict.{first-failed, house-empty, opening-checks}
-use Rattle.rules.specs.Histories.{Entry, Opens, Seen, Stands, tally-of, register}
+use Rattle.pairing.specs.Lines.{total, of-asset, inside}
+use Rattle.rules.specs.Numbers.{session-number}
+use Rattle.rules.specs.Tally.{Opening, Tally, held, all-held, units, money, no-line}
+use Rattle.rules.specs.Histories.{Entry, Opens, Seen, Stands, tally-of}
 use Rattle.rules.specs.Law.{Finished, Ended}
 use Rattle.rules.proofs.Totals.{sum-zero}
-use Rattle.rules.proofs.Kept.{Kept, Sane, None-in, Makes-lines, gave, got}
+use Rattle.rules.proofs.Kept.{Kept, None-in, gave, got}
 use Rattle.rules.proofs.Balances.{row-0, agent-0}
-use Rattle.rules.proofs.Invariant.{kept}
-
--- where no check failed, each passed
-passed : {E : Type 0} (cs : List (Bool × E)) → first-failed cs ≡ None → All (λ (x : Bool × E). x .0 ≡ true) cs
-passed [] h = tt
-passed ((true, e) ∷ rest) h = (refl, passed rest h)
-passed ((false, e) ∷ rest) h = absurd (let z : _≡_ {A = ℕ} 0 1 = cc in omega arith)
-
-empty-below : (m : Meaning) (n : ℕ) → house-empty m n ≡ true → (a : ℕ) → a < n → m .balance 0 a ≡ 0
-empty-below m n h = decides-below-and (λ a. eqb (m .balance 0 a) 0) (λ a. m .balance 0 a ≡ 0) (house-empty m) (λ a. decides-eqb (m .balance 0 a) 0) refl (λ _. refl) n .0 h
-
-pub house-at-first : (o : Opening) → Opens o → ((a : ℕ) → a < length (o .book .assets) → o .securities .balance 0 a ≡ 0) × (o .cash .balance 0 0 ≡ 0)
-house-at-first o p =
-  let q = passed (opening-checks o) (p .not-refused) in
-  (empty-below (o .securities) (length (o .book .assets)) (q .1 .1 .1 .1 .0), empty-below (o .cash) 1 (q .1 .1 .1 .1 .1 .0) 0 (omega arith))
+use Rattle.rules.proofs.Opened.{house-at-first}
+use Rattle.rules.proofs.KeptAlways.{kept}
 
 -- account 0 holds the units of the contracts in, and the draws; always
 pub house-units : (o : Opening) (t : Tally) (a : ℕ) → Opens o → Kept o t → a < length (o .book .assets) → units o t 0 a ≡ o .book .terms .multiplier * total (of-asset a) inside (t .lines)
@@ -87,9 +69,9 @@ told-end o t p s e =
   , (λ a lt. house-units o t a p s lt ∙ (ap (λ x. m * x) (sum-zero (λ l. cond (of-asset a l) (inside l) 0) (t .lines) (all-weaker None-in (λ l. cond (of-asset a l) (inside l) 0 ≡ 0) (not-in a) (t .lines) none)) ∙ mul-zero m))
   , (λ i. record { settled-or-closed = s .finished e i; none-in = none-at (t .lines) none i }) )
 
-pub ended-holds : (o : Opening) (h : List Entry) (n : Seen) → Makes-lines (o .book) → Stands o h n → tally-of o h .session ≡ Closed → Ended o h n
-ended-holds o h n mk st e =
-  let q = told-end o (tally-of o h) (st .opens) (kept o h (st .opens) mk (st .lived)) (ap session-number e) in
+pub ended-holds : (o : Opening) (h : List Entry) (n : Seen) → Stands o h n → tally-of o h .session ≡ Closed → Ended o h n
+ended-holds o h n st e =
+  let q = told-end o (tally-of o h) (st .opens) (kept o h (st .opens) (st .lived)) (ap session-number e) in
   record
   { no-cash = st .registers Cash .balance 0 0 ∙ q .0
   ; no-units = λ a lt. st .registers Securities .balance 0 a ∙ q .1 a lt

@@ -1,24 +1,19 @@
 -- The told balances by addition: in a tally that keeps the invariant nothing is cut off.
-use mathlib.Core.Path.{_≡_, refl, sym, _∙_, ap}
-use mathlib.Core.Bool.{Bool, true, false, cond, _&&_}
-use mathlib.Core.Logic.{_⊎_, inl, inr}
-use mathlib.Core.List.{List, [], _∷_}
-use Prim.Native.Nat.{ℕ, zero, suc, _+_, _-_, _*_, _≤_, _<_}
+use mathlib.Core.Path.{_≡_, refl, ap}
+use mathlib.Core.Bool.{cond}
+use mathlib.Core.List.{List}
+use Prim.Native.Nat.{ℕ, zero, suc, _+_, _-_, _*_, _<_}
 use native.Mathlib.Omega.{arith}
-use native.Mathlib.Nat.{mul-zero, mul-add}
 use lib.Dec.{eqb}
 use lib.ListN.{length}
-use Rattle.std.specs.shelf.Lists.{sumBy, All}
-use Rattle.std.proofs.shelf.Sums.{sumBy-cons}
+use Rattle.std.specs.shelf.Lists.{All}
 use Rattle.std.proofs.shelf.Elements.{all-getD, all-weaker}
-use Rattle.std.proofs.shelf.Ways.{tells}
 use Rattle.std.proofs.shelf.Tests.{ne-eqb}
 use Rattle.book.specs.declared.records.Holder.{Holder}
 use Rattle.pairing.specs.declared.line.Line.{Line}
-use Rattle.rules.specs.declared.side.Side.{Side}
 use Rattle.rules.specs.declared.side.Side.the-variants.{Securities, Cash}
 use Rattle.book.specs.Books.{Contents, Sound, In, Holder-in-range, holder, nobody, value}
-use Rattle.pairing.specs.Lines.{total, of-seller, of-buyer, of-asset, inside, buyer-agent, seller-agent, value-bought, value-sold, debit}
+use Rattle.pairing.specs.Lines.{total, of-seller, of-buyer, of-asset, inside, buyer-agent, seller-agent, value-bought, value-sold}
 use Rattle.rules.specs.Tally.{Opening, Tally, credited, held, all-held, at-0, units, money}
 use Rattle.rules.proofs.Totals.{sum-zero}
 use Rattle.rules.proofs.Kept.{Kept, Sane, gave, got, spent, earned}

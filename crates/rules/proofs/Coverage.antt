@@ -1,11 +1,9 @@
 -- A trial of the definitions: coverage follows from the answers alone.
-use mathlib.Core.Path.{_≡_, refl, ap, sym, subst}
+use mathlib.Core.Path.{_≡_, refl, sym, subst}
 use mathlib.Core.Bool.{Bool, true, false, _&&_}
 use mathlib.Core.List.{List, [], _∷_}
-use Prim.Native.Nat.{ℕ}
-use Rattle.std.specs.declared.option.Option.{Option}
 use Rattle.std.specs.declared.result.Result.{Result}
-use Rattle.std.specs.declared.result.Result.the-variants.{Ok, Err}
+use Rattle.std.specs.declared.result.Result.the-variants.{Err}
 use Rattle.std.specs.Results.{isOk}
 use Rattle.rules.specs.declared.call.Call.{Call}
 use Rattle.rules.specs.declared.call.Call.the-variants as call
@@ -43,8 +41,8 @@ by-verdict o t call.Pair = tt
 by-verdict o t (call.Credit side account asset amount) = tt
 by-verdict o t (call.Take m n a) = three (in-its-session t (call.Take m n a)) (something-due o t (call.Take m n a)) (covers o t (call.Take m n a)) (Register Securities Short) (call.Take m n a) (answer o t (call.Take m n a))
 by-verdict o t (call.Draw a) = three (in-its-session t (call.Draw a)) (something-due o t (call.Draw a)) (covers o t (call.Draw a)) (Register Cash Short) (call.Draw a) (answer o t (call.Draw a))
-by-verdict o t call.Whole = tt
-by-verdict o t (call.Line i) = three (in-its-session t (call.Line i)) (something-due o t (call.Line i)) (covers o t (call.Line i)) (Register Cash Short) (call.Line i) (answer o t (call.Line i))
+by-verdict o t call.SettleWhole = tt
+by-verdict o t (call.SettleLine i) = three (in-its-session t (call.SettleLine i)) (something-due o t (call.SettleLine i)) (covers o t (call.SettleLine i)) (Register Cash Short) (call.SettleLine i) (answer o t (call.SettleLine i))
 by-verdict o t call.Close = tt
 
 pub lived-covered : (o : Opening) (h : List Entry) → Lived o h → Covered o h

@@ -1,33 +1,19 @@
--- The invariant of the tally, and what another proof has to show of the lines that pairing makes.
+-- What every tally keeps, whatever was called.
 use mathlib.Core.Path.{_≡_}
-use mathlib.Core.Bool.{Bool, true, false, cond}
+use mathlib.Core.Bool.{cond}
 use mathlib.Core.Logic.{_⊎_}
-use mathlib.Core.List.{List, [], _∷_, map}
+use mathlib.Core.List.{List, [], map}
 use Prim.Native.Nat.{ℕ, _+_, _-_, _*_, _≤_, _<_}
 use lib.Dec.{eqb}
 use lib.ListN.{length}
 use Rattle.std.specs.shelf.Lists.{sumBy, All}
 use Rattle.pairing.specs.declared.line.Line.{Line}
-use Rattle.rules.specs.declared.session.Session.{Session}
 use Rattle.rules.specs.declared.side.Side.{Side}
 use Rattle.rules.specs.declared.side.Side.the-variants.{Securities, Cash}
 use Rattle.book.specs.Books.{Contents, In, holder, sells, volume}
 use Rattle.pairing.specs.Lines.{Lot, lines-of, total, of-seller, of-buyer, value-bought, value-sold, debit}
-use Rattle.rules.specs.Tally.{Opening, Tally, Drawn, session-number, credited, held, counts, line, closed-on}
-
--- A line as pairing makes it: rows and asset are the book's, it has contracts, and none is taken.
-pub record Made-line (b : Contents) (l : Line) : Type 0 where
-  pub buyer : In 1 (length (b .holders)) (l .buyer)
-  pub seller : In 1 (length (b .holders)) (l .seller)
-  pub asset : l .asset < length (b .assets)
-  pub some : 0 < l .contracts
-  pub taken : l .taken ≡ 0
-  pub settled : l .settled ≡ 0
-  pub returned : l .returned ≡ 0
-
-pub record Made-lines (b : Contents) (ls : List Line) : Type 0 where
-  pub each : All (Made-line b) ls
-  pub few : sumBy (λ l. l .contracts) ls ≤ 1000000
+use Rattle.rules.specs.Numbers.{session-number}
+use Rattle.rules.specs.Tally.{Opening, Tally, credited, held, counts, line, closed-on}
 
 -- A line at any time.
 pub record Sane (b : Contents) (l : Line) : Type 0 where
@@ -49,10 +35,6 @@ for-sale b row = cond (sells (holder b row)) (volume (holder b row)) 0
 pub record Full-lots (b : Contents) (lots : List Lot) : Type 0 where
   pub volumes : (row : ℕ) → in-lots lots row ≡ for-sale b row
   pub assets : All (λ x. x .asset < length (b .assets)) lots
-
--- The hypothesis that is left to the proof of pairing: of full lots the lines are well made.
-abbrev pub Makes-lines : Contents → Type 0
-Makes-lines b = (lots : List Lot) → Full-lots b lots → Made-lines b (lines-of b lots)
 
 -- Contracts that the row k gave of the asset a and did not get back, and those that it got.
 abbrev pub gave : List Line → ℕ → ℕ → ℕ

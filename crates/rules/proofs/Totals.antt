@@ -1,20 +1,23 @@
 -- Sums over lines, and how a change of the lines changes them.
-use mathlib.Core.Path.{_≡_, refl, sym, _∙_, ap}
-use mathlib.Core.Bool.{Bool, true, false, cond, _&&_}
+use mathlib.Core.Path.{_≡_, refl, _∙_, ap}
+use mathlib.Core.Bool.{Bool, true, false, cond}
 use mathlib.Core.Logic.{_⊎_, inl, inr}
 use mathlib.Core.List.{List, [], _∷_, map}
-use Prim.Native.Nat.{ℕ, zero, suc, min, _+_, _-_, _*_, _≤_, _<_}
+use Prim.Native.Nat.{ℕ, zero, suc, _+_, _-_, _*_, _≤_, _<_}
 use native.Mathlib.Omega.{arith}
 use native.Mathlib.Nat.{add-mul, zero-mul}
-use lib.Dec.{eqb}
 use lib.ListN.{length, getD, set}
 use Rattle.std.specs.shelf.Lists.{sumBy, All}
-use Rattle.std.proofs.shelf.Sums.{sumBy-cons, sumBy-set}
-use Rattle.std.proofs.shelf.Elements.{all-getD}
+use Rattle.std.proofs.shelf.Sums.{sumBy-cons}
 use Rattle.std.proofs.shelf.Ways.{tells}
 use Rattle.pairing.specs.declared.line.Line.{Line}
 use Rattle.book.specs.Books.{Contents, value, invoice}
 use Rattle.rules.specs.Tally.{take-on, loaded, here}
+
+-- what holds of everything holds of each
+pub all-of : {X : Type 0} (P : X → Type 0) → ((x : X) → P x) → (xs : List X) → All P xs
+all-of P f [] = tt
+all-of P f (x ∷ xs) = (f x, all-of P f xs)
 
 pub sum-zero : {X : Type 0} (f : X → ℕ) (xs : List X) → All (λ x. f x ≡ 0) xs → sumBy f xs ≡ 0
 sum-zero f [] a = refl
@@ -52,6 +55,24 @@ map-same f g t [] a = refl
 map-same f g t (x ∷ xs) a =
   let p = a .0 in let q = map-same f g t xs (a .1) in
   rw (sumBy-cons f (t x) (map t xs), sumBy-cons g x xs) (omega arith)
+
+pub map-split : (f g h : Line → ℕ) (t : Line → Line) (ls : List Line) → All (λ l. f l ≡ g (t l) + h l) ls → sumBy f ls ≡ sumBy g (map t ls) + sumBy h ls
+map-split f g h t [] a = refl
+map-split f g h t (x ∷ xs) a =
+  let p = a .0 in let q = map-split f g h t xs (a .1) in
+  rw (sumBy-cons f x xs, sumBy-cons g (t x) (map t xs), sumBy-cons h x xs) (omega arith)
+
+pub map-more : (f h : Line → ℕ) (t : Line → Line) (ls : List Line) → All (λ l. f (t l) ≡ f l + h l) ls → sumBy f (map t ls) ≡ sumBy f ls + sumBy h ls
+map-more f h t [] a = refl
+map-more f h t (x ∷ xs) a =
+  let p = a .0 in let q = map-more f h t xs (a .1) in
+  rw (sumBy-cons f (t x) (map t xs), sumBy-cons f x xs, sumBy-cons h x xs) (omega arith)
+
+pub map-zero : (f : Line → ℕ) (t : Line → Line) (ls : List Line) → All (λ l. f (t l) ≡ 0) ls → sumBy f (map t ls) ≡ 0
+map-zero f t [] a = refl
+map-zero f t (x ∷ xs) a =
+  let p = a .0 in let q = map-zero f t xs (a .1) in
+  rw (sumBy-cons f (t x) (map t xs)) (omega arith)
 
 -- a take
 pub take-kept : (f : Line → ℕ) (row a n : ℕ) (ls : List Line) → ((m : ℕ) (l : Line) → f (loaded row a m l) ≡ f l) → sumBy f (take-on row a n ls) ≡ sumBy f ls

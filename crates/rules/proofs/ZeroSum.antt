@@ -1,9 +1,9 @@
 -- The claims of agents 1 to 64 add up to 0.
-use mathlib.Core.Path.{_≡_, refl, sym, _∙_, ap}
-use mathlib.Core.Bool.{Bool, true, false, cond, _&&_}
-use mathlib.Core.Logic.{_⊎_, inl, inr}
+use mathlib.Core.Path.{_≡_, refl, _∙_}
+use mathlib.Core.Bool.{cond}
+use mathlib.Core.Logic.{inl, inr}
 use mathlib.Core.List.{List, [], _∷_}
-use Prim.Native.Nat.{ℕ, zero, suc, _+_, _-_, _*_, _≤_, _<_}
+use Prim.Native.Nat.{ℕ, zero, suc, _+_, _-_, _≤_, _<_}
 use native.Mathlib.Omega.{arith}
 use lib.Dec.{eqb}
 use lib.IntN.{ℤ, pos, _+ℤ_, _-ℤ_}
@@ -11,9 +11,9 @@ use Rattle.std.specs.shelf.Lists.{All}
 use Rattle.std.proofs.shelf.Signed.{ints}
 use Rattle.std.proofs.shelf.Tests.{ne-eqb, eq-eqb, cases-eq}
 use Rattle.pairing.specs.declared.line.Line.{Line}
-use Rattle.book.specs.Books.{Contents, Sound, In}
+use Rattle.book.specs.Books.{Contents, Sound}
 use Rattle.pairing.specs.Lines.{sumℤ, claim-on, differences, buyer-agent, seller-agent}
-use Rattle.rules.specs.Tally.{Opening, Tally, in-session, claim}
+use Rattle.rules.specs.Tally.{Tally, claim}
 use Rattle.rules.specs.Law.{sum-agents}
 use Rattle.rules.proofs.Kept.{Sane}
 use Rattle.rules.proofs.Balances.{agent-in}

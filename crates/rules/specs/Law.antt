@@ -1,17 +1,16 @@
 -- The law: what holds of an expiry, its lines and its registers after any history.
-use Prim.Native.Nat.{ℕ, zero, suc, _+_, _-_, _≤_, _<_}
+use Prim.Native.Nat.{ℕ, zero, suc, _+_, _*_, _≤_, _<_}
 use mathlib.Core.Path.{_≡_}
-use mathlib.Core.Bool.{Bool, true, false, _&&_, cond}
+use mathlib.Core.Bool.{true, false}
 use mathlib.Core.List.{List, [], _∷_}
-use lib.Dec.{eqb, leb}
-use lib.IntN.{ℤ, pos, subℕ, _+ℤ_}
+use lib.IntN.{ℤ, pos, _+ℤ_}
 use lib.ListN.{length}
 use Rattle.std.specs.declared.option.Option.{Option}
 use Rattle.std.specs.declared.option.Option.the-variants.{Some, None}
 use Rattle.std.specs.declared.result.Result.{Result}
-use Rattle.std.specs.declared.result.Result.the-variants.{Ok, Err}
+use Rattle.std.specs.declared.result.Result.the-variants.{Err}
 use Rattle.std.specs.Results.{isOk}
-use Rattle.rules.specs.declared.session.Session.the-variants.{Closed}
+use Rattle.rules.specs.declared.session.Session.the-variants.{WholeDelivery, Closed}
 use Rattle.rules.specs.declared.side.Side.{Side}
 use Rattle.rules.specs.declared.side.Side.the-variants.{Securities, Cash}
 use Rattle.rules.specs.declared.call.Call.{Call}
@@ -20,10 +19,27 @@ use Rattle.rules.specs.declared.answer.Answer.{Answer}
 use Rattle.register.specs.declared.fault.RegisterFault.the-variants.{Short}
 use Rattle.rules.specs.declared.fault.Cause.the-variants.{Register}
 use Rattle.rules.specs.declared.fault.Fault.{Fault}
+use Rattle.book.specs.Limits.{most-agent}
+use Rattle.book.specs.Books.{Contents, holder, sells}
+use Rattle.pairing.specs.Lines.{lot, total, of-seller, net}
 use Rattle.pairing.specs.Laws.{Well-paired}
-use Rattle.rules.specs.Tally.{Opening, Tally, session-number, told, claim, line, closed-on}
-use Rattle.rules.specs.Verdict.{due, covers}
+use Rattle.rules.specs.Numbers.{session-number}
+use Rattle.rules.specs.Tally.{Opening, Tally, house, cash-asset, told, claim, line, closed-on}
+use Rattle.rules.specs.Verdict.{lines-a-holder, due, covers}
 use Rattle.rules.specs.Histories.{Entry, tally-of, Seen, register, Same, over, Stands}
+
+-- ---- from pairing on
+
+abbrev pub From-pairing-on : Tally → Type 0
+From-pairing-on t = session-number WholeDelivery ≤ session-number (t .session)
+
+pub record Paired (b : Contents) (t : Tally) : Type 0 where
+  -- The lines are a pairing of the book, name fewer pairs than it has holders, and keep most contracts near.
+  pub well : Well-paired b (t .lines)
+  -- Each seller's lines of an asset add up to its lot.
+  pub lots : (row asset : ℕ) → sells (holder b row) ≡ true → asset < length (b .assets)
+    → total (of-seller row asset) (λ l. l .contracts) (t .lines) ≡ lot (t .lots) row asset
+  pub few : length (t .lines) ≤ lines-a-holder * length (b .holders)
 
 -- ---- coverage
 
@@ -35,8 +51,8 @@ paying-side call.Pair = None
 paying-side (call.Credit side account asset amount) = None
 paying-side (call.Take member number asset) = Some Securities
 paying-side (call.Draw agent) = Some Cash
-paying-side call.Whole = None
-paying-side (call.Line i) = Some Cash
+paying-side call.SettleWhole = None
+paying-side (call.SettleLine i) = Some Cash
 paying-side call.Close = None
 
 abbrev pub Accepted-or-short : Opening → Tally → Call → Result Answer Fault → Option Side → Type 0
@@ -56,9 +72,10 @@ pub record Finished (t : Tally) (i : ℕ) : Type 0 where
   pub settled-or-closed : line t i .settled + closed-on t i ≡ line t i .contracts
   pub none-in : line t i .settled + line t i .returned ≡ line t i .taken
 
+-- After whole settlement or close: the house has no cash and no basket asset, and every line is finished.
 pub record Ended (o : Opening) (h : List Entry) (n : Seen) : Type 0 where
-  pub no-cash : n .cash .balance 0 0 ≡ 0
-  pub no-units : (a : ℕ) → a < length (o .book .assets) → n .securities .balance 0 a ≡ 0
+  pub no-cash : n .cash .balance house cash-asset ≡ 0
+  pub no-units : (a : ℕ) → a < length (o .book .assets) → n .securities .balance house a ≡ 0
   pub lines : (i : ℕ) → Finished (tally-of o h) i
 
 -- The sum over agents 1 to n.
@@ -72,16 +89,15 @@ pub record Law (o : Opening) (h : List Entry) (n : Seen) : Type 0 where
   -- The session is the tally's, and the lines are: they stand in the first places, and later places are as at opening.
   pub session : n .session ≡ tally-of o h .session
   pub lines : n .table ≡ over (tally-of o h .lines) (o .table)
-  -- From pairing on they are a pairing of the book, name fewer pairs than it has holders, and keep most contracts near.
-  pub paired : 4 ≤ session-number (tally-of o h .session) → Well-paired (o .book) (tally-of o h .lines)
+  pub paired : From-pairing-on (tally-of o h) → Paired (o .book) (tally-of o h)
   -- Each balance and issue of both registers is the tally's.
   pub registers : (side : Side) → Same (register n side) (told o (tally-of o h) side)
   pub covered : Covered o h
-  -- After whole settlement or close.
   pub ended : tally-of o h .session ≡ Closed → Ended o h n
-  -- The claims told are the tally's (0 until then), and add up to zero.
+  -- The nets and claims told are the tally's (nets 0 before pairing, claims 0 until a close), and claims add up to zero.
+  pub nets : (agent : ℕ) → n .net agent ≡ net (o .book) (tally-of o h .lines) agent
   pub claims : (agent : ℕ) → n .claim agent ≡ claim (o .book) (tally-of o h) agent
-  pub zero-sum : sum-agents (n .claim) 64 ≡ pos 0
+  pub zero-sum : sum-agents (n .claim) most-agent ≡ pos 0
 
 -- Wherever an expiry stands, the law holds.
 abbrev pub Law-holds : Type 0

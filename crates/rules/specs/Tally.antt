@@ -1,21 +1,22 @@
--- The tally: kept from the book, the opening balances and the calls alone.
+-- The tally: kept from the book, the opening balances and the calls alone, each with whether it was accepted.
 use Prim.Native.Nat.{ℕ, _+_, _-_, _*_, _/_, min}
-use mathlib.Core.Bool.{Bool, true, false, _&&_, _||_, cond}
+use mathlib.Core.Bool.{Bool, true, false, _&&_, cond}
 use mathlib.Core.List.{List, [], _∷_, _++_, map}
 use lib.Dec.{eqb}
-use lib.IntN.{ℤ, pos}
+use lib.IntN.{ℤ}
 use lib.ListN.{getD, set}
 use Rattle.std.specs.shelf.Lists.{sumBy}
 use Rattle.pairing.specs.declared.line.Line.{Line}
 use Rattle.pairing.specs.declared.stage.Stage.the-variants.{Member}
 use Rattle.rules.specs.declared.session.Session.{Session}
-use Rattle.rules.specs.declared.session.Session.the-variants.{MembersNotices, ClearingNotices, Pairing, WholeDelivery, PartDelivery, Closed}
+use Rattle.rules.specs.declared.session.Session.the-variants.{MembersNotices, ClearingNotices, Pairing, WholeDelivery, PartialDelivery, Closed}
 use Rattle.rules.specs.declared.side.Side.{Side}
 use Rattle.rules.specs.declared.side.Side.the-variants.{Securities, Cash}
 use Rattle.rules.specs.declared.call.Call.{Call}
 use Rattle.rules.specs.declared.call.Call.the-variants as call
 use Rattle.register.specs.Rules.{Meaning}
 use Rattle.book.specs.Books.{Contents, row-named}
+use Rattle.rules.specs.Numbers.{session-number}
 use Rattle.pairing.specs.Lines.{Lot, added, total, sumℤ, of-seller, of-buyer, of-asset, lines-of, open-on, inside, unsettled, outstanding, value-bought, value-sold, debit, claim-on}
 
 -- What an expiry opens with: a book, the places for lines, and two registers.
@@ -25,6 +26,7 @@ pub record Opening : Type 0 where
   pub securities : Meaning
   pub cash : Meaning
 
+-- The register of a side, as it was at the opening.
 abbrev pub opened : Opening → Side → Meaning
 opened o Securities = o .securities
 opened o Cash = o .cash
@@ -40,6 +42,7 @@ pub record Drawn : Type 0 where
   pub agent : ℕ
   pub amount : ℕ
 
+-- All that the calls so far come to.
 pub record Tally : Type 0 where
   pub session : Session
   pub lots : List Lot
@@ -49,22 +52,16 @@ pub record Tally : Type 0 where
   -- The lines whose unsettled contracts a close closed by differences; none before it, nor after a whole settlement.
   pub closed : List Line
 
+-- Before the first call.
 abbrev pub empty : Tally
 empty = record { session = MembersNotices; lots = []; lines = []; credits = []; draws = []; closed = [] }
 
 -- ---- what it tells
 
-abbrev pub session-number : Session → ℕ
-session-number MembersNotices = 1
-session-number ClearingNotices = 2
-session-number Pairing = 3
-session-number WholeDelivery = 4
-session-number PartDelivery = 5
-session-number Closed = 6
+abbrev pub in-session : Session → Tally → Bool
+in-session s t = eqb (session-number (t .session)) (session-number s)
 
-abbrev pub in-session : ℕ → Tally → Bool
-in-session n t = eqb (session-number (t .session)) n
-
+-- Whether two sides are one.
 abbrev pub same-side : Side → Side → Bool
 same-side Securities Securities = true
 same-side Securities Cash = false
@@ -85,20 +82,27 @@ held t agent = sumBy (λ x. cond (eqb (x .agent) agent) (x .amount) 0) (t .draws
 abbrev pub all-held : Tally → ℕ
 all-held t = sumBy (λ x. x .amount) (t .draws)
 
--- Account 0 is the house's own, and cash is asset 0 of the cash register.
+-- In each register account 0 is the house's own, and in the cash register cash is asset 0.
+abbrev pub house : ℕ
+house = 0
+
+abbrev pub cash-asset : ℕ
+cash-asset = 0
+
+-- So much at account 0, or of asset 0, and nothing at another.
 abbrev pub at-0 : ℕ → ℕ → ℕ
 at-0 k n = cond (eqb k 0) n 0
 
--- Opening balance plus credits; a seller's less units taken and not returned, a buyer's plus units settled; account 0's
--- plus units of contracts in. A holder's account is its row.
+-- A balance of units: opening balance plus credits; a seller's less units taken and not returned, a buyer's plus units
+-- settled; account 0's plus units of contracts in. A holder's account is its row.
 abbrev pub units : Opening → Tally → ℕ → ℕ → ℕ
 units o t k a =
   (o .securities .balance k a + credited t Securities k a
     + o .book .terms .multiplier * (total (of-buyer k a) (λ l. l .settled) (t .lines) + at-0 k (total (of-asset a) inside (t .lines))))
   - o .book .terms .multiplier * total (of-seller k a) (λ l. l .taken - l .returned) (t .lines)
 
--- Opening balance plus credits; an agent's plus value sold and settled, less value bought and settled and draw held;
--- account 0's plus draws held. An agent's account is its number. Nothing but credits changes another asset than 0.
+-- A balance of cash: opening balance plus credits; an agent's plus value sold and settled, less value bought and settled
+-- and draw held; account 0's plus draws held. An agent's account is its number. Only credits change another asset than cash.
 abbrev pub money : Opening → Tally → ℕ → ℕ → ℕ
 money o t k a =
   (o .cash .balance k a + credited t Cash k a
@@ -119,6 +123,7 @@ claim b t agent = sumℤ (claim-on b agent) (t .closed)
 
 -- ---- how calls change it
 
+-- A line of nobody, with nothing on it.
 abbrev pub no-line : Line
 no-line = record { stage = Member; buyer = 0; seller = 0; asset = 0; contracts = 0; taken = 0; settled = 0; returned = 0 }
 
@@ -134,16 +139,19 @@ closed-on t i = unsettled (getD (no-line ∷ t .closed) i no-line)
 abbrev pub counts : Line → ℕ → ℕ → ℕ → Line
 counts l taken settled returned = record { stage = l .stage; buyer = l .buyer; seller = l .seller; asset = l .asset; contracts = l .contracts; taken = taken; settled = settled; returned = returned }
 
+-- The tally with other lines and draws, in a session.
 abbrev pub with-lines : Tally → Session → List Line → List Drawn → Tally
 with-lines t session ls draws = record { session = session; lots = t .lots; lines = ls; credits = t .credits; draws = draws; closed = t .closed }
 
--- Lines that a close leaves, each with what it does not settle closed by differences.
+-- After a close: the lines that it leaves, and the same, as those whose unsettled contracts it closed by differences.
 abbrev pub with-closed : Tally → List Line → Tally
 with-closed t ls = record { session = Closed; lots = t .lots; lines = ls; credits = t .credits; draws = t .draws; closed = ls }
 
+-- The tally with other lots, in a session.
 abbrev pub with-lots : Tally → Session → List Lot → Tally
 with-lots t session lots = record { session = session; lots = lots; lines = t .lines; credits = t .credits; draws = t .draws; closed = t .closed }
 
+-- The tally with one credit more.
 abbrev pub with-credit : Tally → Credited → Tally
 with-credit t x = record { session = t .session; lots = t .lots; lines = t .lines; credits = x ∷ t .credits; draws = t .draws; closed = t .closed }
 
@@ -152,7 +160,7 @@ abbrev pub takes : Opening → Tally → ℕ → ℕ → ℕ
 takes o t row a =
   let due = outstanding (t .lines) row a in
   let covered = units o t row a / o .book .terms .multiplier in
-  cond (in-session 5 t) (min due covered) due
+  cond (in-session PartialDelivery t) (min due covered) due
 
 -- What a line takes of n contracts of a seller and asset, and the line with them.
 abbrev pub here : ℕ → ℕ → ℕ → Line → ℕ
@@ -166,6 +174,7 @@ abbrev pub take-on : ℕ → ℕ → ℕ → List Line → List Line
 take-on row a n [] = []
 take-on row a n (l ∷ ls) = loaded row a n l ∷ take-on row a (n - here row a n l) ls
 
+-- What is in becomes settled, or is returned.
 abbrev pub settle : Line → Line
 settle l = counts l (l .taken) (l .settled + inside l) (l .returned)
 
@@ -177,8 +186,8 @@ abbrev pub ended : Contents → Tally → Session → Tally
 ended b t MembersNotices = with-lots t ClearingNotices (t .lots)
 ended b t ClearingNotices = with-lots t Pairing (added b (t .lots) ++ t .lots)
 ended b t Pairing = t
-ended b t WholeDelivery = with-lines t PartDelivery (t .lines) []
-ended b t PartDelivery = t
+ended b t WholeDelivery = with-lines t PartialDelivery (t .lines) []
+ended b t PartialDelivery = t
 ended b t Closed = t
 
 -- One accepted call.
@@ -192,8 +201,8 @@ accepted o t (call.Take member number asset) =
   let row = row-named (o .book) member number in
   with-lines t (t .session) (take-on row asset (takes o t row asset) (t .lines)) (t .draws)
 accepted o t (call.Draw agent) = with-lines t (t .session) (t .lines) (record { agent = agent; amount = debit (o .book) (t .lines) agent } ∷ t .draws)
-accepted o t call.Whole = with-lines t Closed (map settle (t .lines)) []
-accepted o t (call.Line i) = with-lines t (t .session) (set (t .lines) (i - 1) (settle (line t i))) (t .draws)
+accepted o t call.SettleWhole = with-lines t Closed (map settle (t .lines)) []
+accepted o t (call.SettleLine i) = with-lines t (t .session) (set (t .lines) (i - 1) (settle (line t i))) (t .draws)
 accepted o t call.Close = with-closed t (map give-back (t .lines))
 
 -- The tally after calls, the newest first, each with whether it was accepted. A refused call leaves it.

@@ -1,5 +1,5 @@
-// The two registers.
-#[derive(Clone, Copy)]
+// The two registers of an expiry: units of the assets that are delivered, and the cash that pays for them.
+#[derive(Clone, Copy, PartialEq, Eq, Debug)]
 pub enum Side {
     Securities,
     Cash,

@@ -1,5 +1,5 @@
-// Who gives a notice, with its number.
-#[derive(Clone, Copy)]
+// Who gives a notice: a member or a clearing member, with its number.
+#[derive(Clone, Copy, PartialEq, Eq, Debug)]
 pub enum Speaker {
     Member(u64),
     Clearing(u64),

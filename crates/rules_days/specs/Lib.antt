@@ -1,0 +1,10 @@
+pub mod Trials
+pub mod Days01
+pub mod Days02
+pub mod Days03
+pub mod Days04
+pub mod Days05
+pub mod Days06
+pub mod Days07
+pub mod Days08
+pub mod Days
