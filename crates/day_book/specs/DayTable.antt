@@ -20,6 +20,7 @@ waits q = pending (q .table) 0 (q .count)
 abbrev pub day-cell : List ℕ → ℕ → ℕ → List Entry → ℕ → ℕ → ℕ
 day-cell cells accounts assets es a s = cond (ltb a accounts && ltb s assets) (apply-all es a s (cell cells accounts assets a s)) 0
 
+-- What posted balances, entries and issues mean together.
 abbrev pub day-meaning : List ℕ → ℕ → ℕ → List Entry → List ℕ → Meaning
 day-meaning cells accounts assets es issues = record { accounts = accounts; assets = assets; balance = day-cell cells accounts assets es; issue = issued issues assets }
 

@@ -16,6 +16,7 @@ a-credit account asset amount = record { credit = true; giver = account; taker =
 abbrev pub a-move : ℕ → ℕ → ℕ → ℕ → Entry
 a-move giver taker asset amount = record { credit = false; giver = giver; taker = taker; asset = asset; amount = amount }
 
+-- What stands in the places where no entry waits.
 abbrev pub blank : Entry
 blank = a-move 0 0 0 0
 
@@ -57,6 +58,7 @@ pending table first count = take (count - first) (drop first table)
 abbrev pub most-entries : ℕ
 most-entries = 64
 
+-- As many wait as can.
 abbrev pub full : List Entry → Bool
 full es = eqb (length es) most-entries
 

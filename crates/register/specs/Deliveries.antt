@@ -4,9 +4,9 @@ use mathlib.Core.Logic.{_⊎_}
 use Rattle.std.specs.declared.option.Option.{Option}
 use Rattle.std.specs.declared.option.Option.the-variants.{Some, None}
 use Rattle.register.specs.declared.fault.RegisterFault.{RegisterFault}
-use Rattle.register.specs.declared.terms.Delivery.{Delivery}
-use Rattle.register.specs.declared.terms.DeliveryFault.{DeliveryFault}
-use Rattle.register.specs.declared.terms.DeliveryFault.the-variants.{Units, Money}
+use Rattle.register.specs.declared.delivery.Delivery.{Delivery}
+use Rattle.register.specs.declared.delivery.DeliveryFault.{DeliveryFault}
+use Rattle.register.specs.declared.delivery.DeliveryFault.the-variants.{Units, Money}
 use Rattle.register.specs.Rules.{Meaning, unless-refused, transfer-refused, with-move}
 
 abbrev pub units-refused : Meaning → Delivery → Option RegisterFault

@@ -6,9 +6,28 @@ ghost use Rattle.register.specs.Rules.{answer};
 ghost use Rattle.register.specs.Deliveries.{delivery-refused, units-moved, money-moved, securities-after, cash-after, Both-or-neither};
 use crate::balances::Balances;
 use crate::checks::check_transfer;
-use crate::terms::Delivery;
-use crate::terms::DeliveryFault;
+use crate::fault::RegisterFault;
 use crate::transfers::Transfers;
+
+// Units of an asset from seller to buyer, against an amount of a currency from payer to payee.
+#[derive(Clone, Copy)]
+pub struct Delivery {
+    pub seller: usize,
+    pub buyer: usize,
+    pub asset: usize,
+    pub units: u64,
+    pub payer: usize,
+    pub payee: usize,
+    pub currency: usize,
+    pub amount: u64,
+}
+
+// The refusal of either half.
+#[derive(Clone, Copy)]
+pub enum DeliveryFault {
+    Units(RegisterFault),
+    Money(RegisterFault),
+}
 
 // What the two registers would answer to this delivery, told by their reading halves alone.
 pub fn check_delivery<S: Balances, C: Balances>(

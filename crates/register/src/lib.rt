@@ -6,5 +6,4 @@ pub mod delivery;
 pub mod fault;
 pub mod instruction;
 pub mod limits;
-pub mod terms;
 pub mod transfers;

@@ -1,11 +1,11 @@
 // What the program prints: answers, balances and memory, each line under the name of a make.
 use register::balances::Balances;
 use register::carrying::carry_out;
+use register::delivery::Delivery;
+use register::delivery::DeliveryFault;
 use register::delivery::deliver_against_payment;
 use register::fault::MakeFault;
 use register::instruction::Instruction;
-use register::terms::Delivery;
-use register::terms::DeliveryFault;
 use register::transfers::Transfers;
 use std::io;
 

@@ -1,7 +1,7 @@
 // The balances, instructions and deliveries that the program runs.
+use register::delivery::Delivery;
 use register::instruction::Instruction;
 use register::limits::MOST_ISSUED;
-use register::terms::Delivery;
 
 pub(crate) const ACCOUNTS: usize = 3;
 

@@ -20,17 +20,20 @@ most-accounts = 1024
 abbrev pub most-assets : ℕ
 most-assets = 16
 
+-- The counts are in range, and the memory has a place for each balance.
 abbrev pub shaped : ℕ → ℕ → ℕ → Bool
 shaped accounts assets size =
     leb 1 accounts && (leb accounts most-accounts && (leb 1 assets && (leb assets most-assets && eqb size (accounts * assets))))
 
--- The sum of an asset's balances in memory, and whether one of the first n such sums is above the most.
+-- The sum of an asset's balances in memory,
 abbrev pub column : List ℕ → ℕ → ℕ → ℕ → ℕ
 column cells accounts assets asset = sum-to (λ account. getD cells (place assets account asset) 0) accounts
 
+-- the sum where it is not above the most,
 abbrev pub within-most : ℕ → Option ℕ
 within-most n = cond (leb n most) (Some n) None
 
+-- and whether one of the first n sums is above the most.
 abbrev pub any-over : (ℕ → ℕ) → ℕ → Bool
 any-over f zero = false
 any-over f (suc n) = any-over f n || ltb most (f n)

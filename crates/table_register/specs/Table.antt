@@ -18,13 +18,15 @@ cell cells accounts assets account asset = cond (ltb account accounts && ltb ass
 abbrev pub issued : List ℕ → ℕ → ℕ → ℕ
 issued issues assets asset = cond (ltb asset assets) (getD issues asset 0) 0
 
--- Each issue is at least the sum of its balances, and at most the most.
+-- Each issue is at least the sum of its balances,
 abbrev pub Covered : List ℕ → ℕ → ℕ → List ℕ → Type 0
 Covered cells accounts assets issues = (asset : ℕ) → sum-to (λ account. cell cells accounts assets account asset) accounts ≤ issued issues assets asset
 
+-- and at most the most.
 abbrev pub Bounded : ℕ → List ℕ → Type 0
 Bounded assets issues = (asset : ℕ) → issued issues assets asset ≤ most
 
+-- What cells and issues mean together.
 abbrev pub table-meaning : List ℕ → ℕ → ℕ → List ℕ → Meaning
 table-meaning cells accounts assets issues = record { accounts = accounts; assets = assets; balance = cell cells accounts assets; issue = issued issues assets }
 
