@@ -330,7 +330,7 @@ impl Draft {
 }
 
 // Contracts bought and contracts sold.
-fn traded(holders: &[Holder]) -> (u64, u64)
+pub fn traded(holders: &[Holder]) -> (u64, u64)
     requires { ⌜ length (now holders) ≤ most-holders ⌝ }
     ensures bought { λ r. ⌜ r .0 ≡ sumBy (λ h. cond (buysOf h) (volumeOf h) 0) (now (holders .entry)) ⌝ }
     ensures sold { λ r. ⌜ r .1 ≡ sumBy (λ h. cond (sellsOf h) (volumeOf h) 0) (now (holders .entry)) ⌝ }

@@ -26,3 +26,4 @@ pub mod ToldOnce
 pub mod FarLots
 pub mod SoundSample
 pub mod WorkedCases
+pub mod LinesLawful

@@ -21,28 +21,11 @@ use Rattle.order.specs.First.{first}
 use Rattle.pairing.specs.Orders.{deliverable-leq, deliverables, place-or-0, first-deliverable}
 use Rattle.pairing.specs.Pairing.{pairs}
 use Rattle.pairing.specs.Lines.{Lot, added, added-from, lines-of}
-use Rattle.order.proofs.FirstIs.{first-some}
+use Rattle.pairing.proofs.FirstDeliverable.{first-deliverable-in}
 use Rattle.pairing.proofs.Shares.{at-most}
 use Rattle.pairing.proofs.PairLaws.{rows, rows-bought, pairs-lawful}
 use Rattle.pairing.specs.Laws.{Notified}
 use Rattle.pairing.proofs.LineLaws.{lines-between}
-
-deliverables-length : (price a : ℕ) (xs : List Asset) → length (deliverables price a xs) ≡ length xs
-deliverables-length price a [] = refl
-deliverables-length price a (x ∷ xs) = ap suc (deliverables-length price (a + 1) xs)
-
-abbrev no-deliverable : Deliverable
-no-deliverable = record { asset = 0; market = 0; invoice = 0 }
-
-pub first-deliverable-in : (b : Contents) → Sound b → first-deliverable b < length (b .assets)
-first-deliverable-in b ok = go (first deliverable-leq (λ _. true) (deliverables (b .terms .price) 0 (b .assets))) refl
-  where
-    go : (o : Option (ℕ × Deliverable)) → first deliverable-leq (λ _. true) (deliverables (b .terms .price) 0 (b .assets)) ≡ o → place-or-0 o < length (b .assets)
-    go None e = let c = ok .asset-count .0 in omega (arith, c)
-    go (Some (i, x)) e =
-      let f = first-some deliverable-leq (λ _. true) (deliverables (b .terms .price) 0 (b .assets)) i x no-deliverable e in
-      let l = deliverables-length (b .terms .price) 0 (b .assets) in
-      let h = f .0 in omega (arith, h, l)
 
 added-from-assets : (K row : ℕ) (hs : List Holder) (a : ℕ) (lots : List Lot) → a < K → All (λ x. x .asset < K) (added-from row hs a lots)
 added-from-assets K row [] a lots h = tt

@@ -1,5 +1,5 @@
 -- Pairings of a book, and what makes one good: few pairs, and most contracts near.
-use Prim.Native.Nat.{ℕ, _+_, _≤_, _<_}
+use Prim.Native.Nat.{ℕ, _+_, _*_, _≤_, _<_}
 use mathlib.Core.Path.{_≡_}
 use mathlib.Core.Bool.{Bool, true, false, _&&_, cond}
 use mathlib.Core.List.{List, [], _∷_, _++_}
@@ -12,7 +12,8 @@ use Rattle.book.specs.Books.{Contents, holder, buys, sells, volume}
 use Rattle.pairing.specs.declared.stage.Stage.{Stage}
 use Rattle.pairing.specs.declared.pair.Pair.{Pair}
 use Rattle.pairing.specs.declared.line.Line.{Line}
-use Rattle.pairing.specs.Pairing.{key, unpaired}
+use Rattle.pairing.specs.Pairing.{key, unpaired, pairs}
+use Rattle.pairing.specs.InWords.{As-told}
 use Rattle.pairing.specs.Lines.{Lot, lot, total, of-seller}
 
 -- What the lines of a row add up to: bought contracts count plus, sold ones minus.
@@ -73,3 +74,20 @@ contracts-in ls = sumBy (λ l. l .contracts) ls
 pub data Parts : List Pair → List Line → Type 0 where
   done : Parts [] []
   part : {p : Pair} {ps : List Pair} {rest : List Line} (new : List Line) → All (Of p) new → contracts-in new ≡ p .contracts → Parts ps rest → Parts (p ∷ ps) (new ++ rest)
+
+-- ---- the laws
+
+-- The places that the lines of a book need for each holder.
+abbrev pub places-a-holder : ℕ
+places-a-holder = 4
+
+-- What holds of the lines of a book that is not empty. The lines of some lots are all that these lots cover, so the last
+-- four hold where each seller's lots add up to its volume.
+pub record Lawful (b : Contents) (lots : List Lot) (ls : List Line) : Type 0 where
+  pub pairs-as-told : As-told b (pairs b)
+  pub fewer-pairs-than-holders : different-pairs ls < length (b .holders)
+  pub four-lines-a-holder : length ls ≤ places-a-holder * length (b .holders)
+  pub parts-of-pairs : Notified b lots → Parts (pairs b) ls
+  pub positions-are-met : Notified b lots → Pairing b ls
+  pub lots-are-used-up : Notified b lots → Lots-used b lots ls
+  pub most-contracts-near : Notified b lots → Nearest b ls

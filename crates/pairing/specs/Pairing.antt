@@ -12,6 +12,7 @@ use Rattle.pairing.specs.declared.pair.Pair.{Pair}
 use Rattle.pairing.specs.declared.stage.Group.{Group}
 use Rattle.pairing.specs.declared.stage.Stage.{Stage}
 use Rattle.pairing.specs.declared.stage.Stage.the-variants.{Member, Clearing, Agent, Whole}
+use Rattle.book.specs.Limits.{most-member, most-agent}
 use Rattle.book.specs.Books.{Contents, buys, volume}
 use Rattle.order.specs.First.{first, any}
 use Rattle.pairing.specs.Orders.{holder-leq, holder-open}
@@ -105,7 +106,7 @@ numbered stage from (suc n) = record { stage = stage; number = from } ∷ number
 -- Stages 1 to 4: by member, by clearing member, by payment agent and over the whole book. (Kept shut, since it is long:
 -- an example that computes pairs says `unfolding all-groups`.)
 unfoldable pub all-groups : List Group
-all-groups = numbered Member 1 999 ++ (numbered Clearing 1 999 ++ (numbered Agent 1 64 ++ numbered Whole 0 1))
+all-groups = numbered Member 1 most-member ++ (numbered Clearing 1 most-member ++ (numbered Agent 1 most-agent ++ numbered Whole 0 1))
 
 abbrev pub unpaired : Holder → Unpaired
 unpaired h = record { member = h .member; number = h .number; clearing = h .clearing; agent = h .agent; buys = buys h; volume = volume h }

@@ -3,5 +3,5 @@
 pub struct Deliverable {
     pub asset: u8,
     pub market: u32,
-    pub invoice: u32,
+    pub invoice: u64,
 }

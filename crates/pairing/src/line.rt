@@ -14,3 +14,8 @@ pub struct Line {
     pub settled: u32,
     pub returned: u32,
 }
+
+impl Line {
+    // A line with no contracts, for places of a table that are not used yet.
+    pub const NONE: Line = Line { stage: Stage::Member, buyer: 0, seller: 0, asset: 0, contracts: 0, taken: 0, settled: 0, returned: 0 };
+}

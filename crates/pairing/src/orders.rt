@@ -33,8 +33,8 @@ pub impl Ranked for Deliverable as ByPrice {
     ghost isOpen = { λ _. true };
 
     fn stands_before(&self, other: &Deliverable) -> bool {
-        let here = self.market as u64 + other.invoice as u64;
-        let there = other.market as u64 + self.invoice as u64;
+        let here = u128::from(self.market) + u128::from(other.invoice);
+        let there = u128::from(other.market) + u128::from(self.invoice);
         here < there || (here == there && self.asset <= other.asset)
     }
 

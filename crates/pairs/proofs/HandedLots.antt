@@ -200,9 +200,9 @@ handed-means n a hs xs few l (suc k) c h =
   let e : lot (lots-from n 1 (handed-from n a hs xs)) (k + 1) c ≡ lot (A ++ L) (k + 1) c = omega (arith, s, x, y, z) in
   subst (λ r. lot (lots-from n 1 (handed-from n a hs xs)) r c ≡ lot (A ++ L) r c) (add-one k) e
 
--- Where nothing was notified, they hold what the end of the notices adds to no lots.
+-- The records hold nothing.
 abbrev pub Nothing-held : List SellerLots → Type 0
-Nothing-held xs = (place a : ℕ) → held xs place a ≡ 0
+Nothing-held records = (place a : ℕ) → held records place a ≡ 0
 
 no-lots-in : (n : ℕ) (xs : List SellerLots) → Nothing-held xs → (place : ℕ) → in-lots n (getD xs place no-lots) ≡ 0
 no-lots-in n xs none place = go 0 n
@@ -214,6 +214,7 @@ no-lots-in n xs none place = go 0 n
       let z = none place from in
       let ih = go (from + 1) m in omega (arith, c, z, ih)
 
+-- Where nothing was notified, the records hold what the end of the notices adds to no lots.
 pub handed-unnotified : (n a : ℕ) (hs : List Holder) (xs : List SellerLots) → n ≤ 4 → length hs ≤ length xs → Nothing-held xs → (row c : ℕ) → c < n
   → lot (lots-from n 1 (handed-from n a hs xs)) row c ≡ lot (added-from 1 hs a []) row c
 handed-unnotified n a hs xs few l none zero c h =

@@ -1,31 +1,32 @@
 -- From what is written to what pairing answers and leaves.
-use Prim.Native.Nat.{ℕ, _*_, _<_, _≤_}
+use Prim.Native.Nat.{ℕ, zero, suc, _*_, _<_, _≤_}
 use native.Mathlib.Omega.{arith}
 use mathlib.Core.Path.{_≡_, refl, sym, ap, subst, _∙_}
-use mathlib.Core.Bool.{Bool, true, false, cond}
-use mathlib.Core.List.{List, [], _++_, map}
-use lib.Dec.{ltb}
-use lib.ListN.{length, take, drop}
+use mathlib.Core.Bool.{Bool, true, false, _&&_, cond}
+use mathlib.Core.List.{List, [], _∷_, _++_, map}
+use lib.Dec.{ltb, eqb}
+use lib.ListN.{length, getD, take, drop}
 use Rattle.std.specs.declared.result.Result.{Result}
 use Rattle.std.specs.declared.result.Result.the-variants.{Ok, Err}
-use native.Mathlib.Nat.{mul-le-mul}
 use Rattle.std.proofs.shelf.Lists.{length-take-le, take-append-drop, take-at}
-use Rattle.std.proofs.shelf.Tests.{le-ltb}
+use Rattle.std.proofs.shelf.Tests.{le-ltb, and-parts, eqb-true}
 use Rattle.book.specs.declared.records.Asset.{Asset}
 use Rattle.book.specs.declared.records.Holder.{Holder}
-use Rattle.book.specs.Books.{Contents, Sound}
+use Rattle.book.specs.declared.book.Book.{Book}
+use Rattle.book.specs.Books.{Contents}
+use Rattle.book.specs.Data.{contents}
+use Rattle.pairing.specs.Orders.{first-deliverable}
+use Rattle.pairing.proofs.LinesAgree.{lines-agree}
 use Rattle.pairing.specs.declared.line.Line.{Line}
-use Rattle.pairing.specs.Pairing.{in-groups, all-groups, unpaired, pairs}
-use Rattle.pairing.specs.Laws.{different-pairs}
-use Rattle.pairing.proofs.PairLaws.{rows-length, pairs-lawful}
-use Rattle.pairing.proofs.LineRuns.{runs-length, runs-names}
-use Rattle.pairing.specs.Lines.{Lot, lines-of-pairs, lines-of, over}
+use Rattle.pairing.specs.Pairing.{in-groups, all-groups, unpaired}
+use Rattle.pairing.specs.Lines.{Lot, added, lines-of-pairs, lines-of, over}
 use Rattle.pairs.specs.declared.fault.PairingFault.{PairingFault}
-use Rattle.pairs.specs.declared.fault.PairingFault.the-variants.{FewLines}
+use Rattle.pairs.specs.declared.fault.PairingFault.the-variants.{FewLines, FewRecords}
 use Rattle.pairs.specs.declared.lots.SellerLots.{SellerLots}
-use Rattle.pairs.specs.Records.{lots-from, lots-in}
-use Rattle.pairs.specs.Outcome.{too-small, pair-answer, pair-leaves, Of-lines}
-use Rattle.pairs.proofs.AllPairs.{pairs-few}
+use Rattle.pairs.specs.Records.{lots-from, lots-in, zeros, all-empty, handed-from, handed}
+use Rattle.pairs.specs.Outcome.{too-small, pair-answer, pair-leaves, Of-lines, too-few, hand-answer, hand-leaves, Adds}
+use Rattle.pairs.proofs.BookBounds.{few-of-each}
+use Rattle.pairs.proofs.HandedLots.{Nothing-held, handed-means, handed-unnotified}
 
 pub record Paired (b : Contents) (lots : List Lot) (table out : List Line) (r : ℕ) : Type 0 where
   pub answer : Ok r ≡ pair-answer b lots table
@@ -64,20 +65,50 @@ module _ (b : Contents) (lots : List Lot) (table out : List Line) (r : Result �
               = ap (take (length (lines-of b lots))) whole ∙ take-at (lines-of b lots) (drop (length (lines-of b lots)) table) (length (lines-of b lots)) refl in
         subst law (sym first) holds
 
-module _ (b : Contents) (lots : List Lot) where
+-- ---- the end of the notices
 
-  -- There are at most four lines a holder, whatever the lots, where the book has at most four assets.
-  pub few-lines : length (b .assets) ≤ 4 → length (lines-of b lots) ≤ 4 * length (b .holders)
-  few-lines few =
-    let l = runs-length lots (length (b .assets)) (pairs b) [] in
-    let p = pairs-few all-groups (map unpaired (b .holders)) in
-    let n = rows-length (b .holders) in
-    let m = mul-le-mul {n₁ = length (pairs b)} {m₁ = length (b .assets)} {n₂ = length (b .holders)} {m₂ = 4} (omega (arith, p, n)) few in
-    omega (arith, l, m)
+pub record Handed-out (b : Contents) (before after : List SellerLots) : Type 0 where
+  pub answer : Ok tt ≡ hand-answer b before
+  pub leaves : after ≡ hand-leaves b before
+  pub adds : Adds b before after
 
-  pub names-fewer : Sound b → different-pairs (lines-of b lots) < length (b .holders)
-  names-fewer ok =
-    let r = runs-names lots (length (b .assets)) (pairs b) [] in
-    let f = pairs-lawful b ok .fewer in
-    let l = rows-length (b .holders) in
-    omega (arith, r, f, l)
+pub handed-out : (book : Book) (before after : List SellerLots) (xs : List Asset) (hs : List Holder) (a : ℕ)
+  → length (contents book .holders) ≤ length before → xs ≡ contents book .assets → hs ≡ contents book .holders → a ≡ first-deliverable (contents book)
+  → after ≡ handed-from (length xs) a hs before → Handed-out (contents book) before after
+handed-out book before after xs hs a room ex eh ea is =
+  let b = contents book in
+  let enough : too-few b before ≡ false = le-ltb _ _ room in
+  let all : after ≡ handed b before = is ∙ ap (λ (ys : List Asset). handed-from (length ys) a hs before) ex ∙ ap (λ (ks : List Holder). handed-from (length (b .assets)) a ks before) eh
+        ∙ ap (λ n. handed-from (length (b .assets)) n (b .holders) before) ea in
+  record
+    { answer = sym (ap (λ t. cond {A = Result (Unit {0}) PairingFault} t (Err FewRecords) (Ok tt)) enough)
+    ; leaves = all ∙ sym (ap (λ t. cond t before (handed b before)) enough)
+    ; adds = subst (Adds b before) (sym all) (handed-means (length (b .assets)) (first-deliverable b) (b .holders) before (few-of-each book .0) room) }
+
+-- Without notices, the records handed out give the lines of no lots but those that the end of the notices adds.
+pub lines-unnotified : (book : Book) (before after : List SellerLots) → length (contents book .holders) ≤ length before → Nothing-held before
+  → after ≡ hand-leaves (contents book) before → lines-of (contents book) (lots-in (contents book) after) ≡ lines-of (contents book) (added (contents book) [])
+lines-unnotified book before after room none is =
+  let b = contents book in
+  let all : after ≡ handed b before = is ∙ ap (λ t. cond t before (handed b before)) (le-ltb _ _ room) in
+  ap (λ (xs : List SellerLots). lines-of b (lots-in b xs)) all
+    ∙ lines-agree b (lots-in b (handed b before)) (added b []) (handed-unnotified (length (b .assets)) (first-deliverable b) (b .holders) before (few-of-each book .0) room none)
+
+-- Lots that give the same lines give the same answer and leave the same table.
+pub same-answer : (b : Contents) (xs ys : List Lot) (table : List Line) → lines-of b xs ≡ lines-of b ys → pair-answer b xs table ≡ pair-answer b ys table
+same-answer b xs ys table e = ap (λ (ls : List Line). cond {A = Result ℕ PairingFault} (too-small b table) (Err FewLines) (Ok (length ls))) e
+
+pub same-leaves : (b : Contents) (xs ys : List Lot) (table : List Line) → lines-of b xs ≡ lines-of b ys → pair-leaves b xs table ≡ pair-leaves b ys table
+same-leaves b xs ys table e = ap (λ (ls : List Line). cond (too-small b table) table (over ls table)) e
+
+-- ---- empty records hold nothing
+
+zeros-at : (ns : List ℕ) → zeros ns ≡ true → (a : ℕ) → getD ns a 0 ≡ 0
+zeros-at [] e a = refl
+zeros-at (n ∷ ns) e zero = eqb-true n 0 (and-parts (eqb n 0) (zeros ns) e .0)
+zeros-at (n ∷ ns) e (suc a) = zeros-at ns (and-parts (eqb n 0) (zeros ns) e .1) a
+
+pub nothing-held : (xs : List SellerLots) → all-empty xs ≡ true → Nothing-held xs
+nothing-held [] e place a = refl
+nothing-held (x ∷ xs) e zero a = zeros-at (x .lots) (and-parts (zeros (x .lots)) (all-empty xs) e .0) a
+nothing-held (x ∷ xs) e (suc k) a = nothing-held xs (and-parts (zeros (x .lots)) (all-empty xs) e .1) k a

@@ -10,6 +10,7 @@ use Rattle.std.specs.declared.result.Result.the-variants.{Ok, Err}
 use Rattle.std.specs.Vec.{made}
 use Rattle.book.specs.Books.{Contents}
 use Rattle.pairing.specs.declared.line.Line.{Line}
+use Rattle.pairing.specs.Laws.{places-a-holder}
 use Rattle.pairing.specs.Lines.{Lot, lot, added, lines-of, over}
 use Rattle.pairs.specs.declared.fault.PairingFault.{PairingFault}
 use Rattle.pairs.specs.declared.fault.PairingFault.the-variants.{FewLines, FewRecords}
@@ -17,10 +18,6 @@ use Rattle.pairs.specs.declared.lots.SellerLots.{SellerLots}
 use Rattle.pairs.specs.Records.{lots-in, handed}
 
 -- ---- pairing
-
--- The places that a table of lines needs for each holder.
-abbrev pub places-a-holder : ℕ
-places-a-holder = 4
 
 -- The table has too few places.
 abbrev pub too-small : Contents → List Line → Bool

@@ -1,6 +1,6 @@
 -- The lots that a table of records holds: one record for each holder, in the order of the rows.
 use Prim.Native.Nat.{ℕ, zero, suc, _+_, _-_}
-use mathlib.Core.Bool.{cond}
+use mathlib.Core.Bool.{Bool, true, _&&_, cond}
 use mathlib.Core.List.{List, [], _∷_, _++_}
 use lib.Dec.{eqb}
 use lib.ListN.{length, getD}
@@ -32,6 +32,15 @@ lots-from n row (x ∷ xs) = row-lots row (x .lots) 0 n ++ lots-from n (row + 1)
 -- The lots of a book that the records hold: those of its own assets.
 abbrev pub lots-in : Contents → List SellerLots → List Lot
 lots-in b records = lots-from (length (b .assets)) 1 records
+
+-- Whether all records are empty.
+abbrev pub zeros : List ℕ → Bool
+zeros [] = true
+zeros (n ∷ ns) = eqb n 0 && zeros ns
+
+abbrev pub all-empty : List SellerLots → Bool
+all-empty [] = true
+all-empty (x ∷ xs) = zeros (x .lots) && all-empty xs
 
 -- ---- what the end of the notices leaves
 

@@ -44,12 +44,12 @@ fn hand_one(h: Holder, r: SellerLots, assets: u8, first: u8) -> SellerLots
     requires { ⌜ assets ≤ 4 ⌝ ∗ ⌜ first < assets ⌝ }
     ensures { λ n. ⌜ n ≡ cond (sells h) (filled assets first (volume h) r) r ⌝ }
 {
-    if h.position < 0 { fill(r, assets, first, h.position.unsigned_abs()) } else { r }
+    if h.sells() { fill(r, assets, first, h.volume()) } else { r }
 }
 
 // All records after the end of the notices.
 pub(crate) fn hand_rows(holders: &[Holder], assets: u8, first: u8, records: &mut [SellerLots])
-    requires few { ⌜ assets ≤ 4 ⌝ ∗ ⌜ first < assets ⌝ }
+    requires few { ⌜ assets ≤ 4 ⌝ ∗ ⌜ (0 < length (now holders) → first < assets) ⌝ }
     requires room { ⌜ length (now holders) ≤ length (now records) ⌝ }
     ensures { λ _. ⌜ now (records .exit) ≡ handed-from assets first (now (holders .entry)) (now (records .entry)) ⌝ }
 {

@@ -26,9 +26,7 @@ const NO_PAIR: Pair = Pair { stage: Stage::Member, buyer: 0, seller: 0, contract
 fn unpaired_one(h: Holder) -> Unpaired
     ensures { λ r. ⌜ r ≡ unpaired h ⌝ }
 {
-    let buys = h.position > 0;
-    let volume = h.position.unsigned_abs();
-    Unpaired { member: h.member, number: h.number, clearing: h.clearing, agent: h.agent, buys, volume }
+    Unpaired { member: h.member, number: h.number, clearing: h.clearing, agent: h.agent, buys: h.buys(), volume: h.volume() }
 }
 
 // All holders with all of their contracts unpaired.

@@ -3,10 +3,11 @@ ghost use mathlib.Core.Path.{_≡_};
 ghost use mathlib.Core.Bool.{_&&_};
 ghost use Prim.Native.Nat.{ℕ};
 ghost use lib.Dec.{eqb};
-ghost use Rattle.book.specs.Books.{row-among, row-of as rowOf, invoice-of as invoiceOf, invoice, value as valueOf, buys as buysOf, sells as sellsOf, volume as volumeOf};
+ghost use Rattle.book.specs.Books.{row-among, row-of as rowOf, invoice-of as invoiceOf, invoice, value as valueOf, buys as buysOf, sells as sellsOf, volume as volumeOf, bought as boughtOf};
 ghost use Rattle.book.specs.Data.{contents};
 ghost use Rattle.book.specs.Lookup.{The-one-row};
 use crate::book::Book;
+use crate::draft::traded;
 use crate::records::Asset;
 use crate::records::Holder;
 use crate::records::Terms;
@@ -86,6 +87,14 @@ impl Book {
         ensures value { λ r. ⌜ now r ≡ contents (now (self .entry)) .holders ⌝ }
     {
         self.holders.as_slice()
+    }
+
+    // The contracts bought, which are as many as those sold.
+    pub fn contracts_bought(&self) -> u64
+        ensures value { λ r. ⌜ r ≡ boughtOf (contents (now (self .entry))) ⌝ }
+    {
+        let (bought, _) = traded(self.holders.as_slice());
+        bought
     }
 
     // The row, from 1, of the holder with this member and number, if there is one.
