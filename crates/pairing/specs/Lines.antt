@@ -25,9 +25,13 @@ pub record Lot : Type 0 where
 abbrev pub lot : List Lot → ℕ → ℕ → ℕ
 lot lots row a = sumBy (λ x. cond (eqb (x .row) row && eqb (x .asset) a) (x .contracts) 0) lots
 
+-- All contracts in lots of the seller.
+abbrev pub notified : List Lot → ℕ → ℕ
+notified lots row = sumBy (λ x. cond (eqb (x .row) row) (x .contracts) 0) lots
+
 -- The contracts of the seller in no lot yet.
 abbrev pub unnotified : List Lot → ℕ → Holder → ℕ
-unnotified lots row h = volume h - sumBy (λ x. cond (eqb (x .row) row) (x .contracts) 0) lots
+unnotified lots row h = volume h - notified lots row
 
 -- What the end of the notices adds: each seller's unnotified contracts, to the first deliverable (and nothing for buyers).
 abbrev pub added-from : ℕ → List Holder → ℕ → List Lot → List Lot

@@ -38,7 +38,7 @@ told-at-first o Cash = record { accounts = refl; assets = refl; balance = money-
 
 pub opened-stands : Opened-stands
 opened-stands o p = record
-  { opens = p; lived = tt; book = refl; session = refl; lots = λ _ _. refl; table = refl; draws = λ _. refl; nets = λ _. refl; claims = λ _. refl
+  { opens = p; lived = tt; book = refl; session = refl; lots = λ _ _. refl; notified = λ _. refl; table = refl; count = refl; draws = λ _. refl; nets = λ _. refl; claims = λ _. refl
   ; registers = both }
   where
     both : (side : Side) → Same (register (at-first o) side) (told o empty side)
@@ -47,7 +47,7 @@ opened-stands o p = record
 
 pub any-calls-stand : Any-calls-stand
 any-calls-stand o p cs = record
-  { opens = p; lived = lived-on o [] cs tt; book = refl; session = refl; lots = λ _ _. refl; table = refl; draws = λ _. refl; nets = λ _. refl; claims = λ _. refl
+  { opens = p; lived = lived-on o [] cs tt; book = refl; session = refl; lots = λ _ _. refl; notified = λ _. refl; table = refl; count = refl; draws = λ _. refl; nets = λ _. refl; claims = λ _. refl
   ; registers = both }
   where
     same : (side : Side) → Same (told o (tally-of o (history o [] cs)) side) (told o (tally-of o (history o [] cs)) side)

@@ -57,7 +57,7 @@ room-stays o h n c st =
 
 pub refused-stands : Refused-stands
 refused-stands o h n c e st v = record
-  { opens = st .opens; lived = (sym v, st .lived); book = st .book; session = st .session; lots = st .lots; table = st .table
+  { opens = st .opens; lived = (sym v, st .lived); book = st .book; session = st .session; lots = st .lots; notified = st .notified; table = st .table; count = st .count
   ; draws = st .draws; nets = st .nets; claims = st .claims; registers = st .registers }
 
 -- ---- its own registers

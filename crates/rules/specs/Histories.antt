@@ -19,7 +19,7 @@ use Rattle.rules.specs.declared.fault.Fault.{Fault}
 use Rattle.rules.specs.declared.fault.OpeningFault.{OpeningFault}
 use Rattle.register.specs.Rules.{Meaning}
 use Rattle.book.specs.Books.{Contents, Sound}
-use Rattle.pairing.specs.Lines.{lot, net}
+use Rattle.pairing.specs.Lines.{lot, notified, net}
 use Rattle.rules.specs.Tally.{Opening, Tally, accepted, tally, held, told, claim}
 use Rattle.rules.specs.Verdict.{verdict, opening-refused, too-small}
 
@@ -40,13 +40,16 @@ abbrev pub Lived : Opening → List Entry → Type 0
 Lived o [] = Unit {0}
 Lived o ((c, r) ∷ h) = (r ≡ verdict o (tally-of o h) c) × Lived o h
 
--- An expiry, its lines and its registers at one moment: its book and session, its lots by row and asset, the places for
--- lines, the draws held, nets and claims by agent, and the two registers. Nothing else of it bears on an answer.
+-- An expiry, its lines and its registers at one moment: its book and session, its lots by row and asset, the contracts
+-- notified by row, the places for lines and how many are used, the draws held, nets and claims by agent, and the two
+-- registers. Nothing else of it bears on an answer.
 pub record Seen : Type 0 where
   pub book : Contents
   pub session : Session
   pub lot : ℕ → ℕ → ℕ
+  pub notified : ℕ → ℕ
   pub table : List Line
+  pub count : ℕ
   pub draw : ℕ → ℕ
   pub net : ℕ → ℤ
   pub claim : ℕ → ℤ
@@ -80,6 +83,8 @@ pub record Stands (o : Opening) (h : List Entry) (n : Seen) : Type 0 where
   pub book : n .book ≡ o .book
   pub session : n .session ≡ tally-of o h .session
   pub lots : (row asset : ℕ) → n .lot row asset ≡ lot (tally-of o h .lots) row asset
+  pub notified : (row : ℕ) → n .notified row ≡ notified (tally-of o h .lots) row
+  pub count : n .count ≡ length (tally-of o h .lines)
   pub table : n .table ≡ over (tally-of o h .lines) (o .table)
   pub draws : (agent : ℕ) → n .draw agent ≡ held (tally-of o h) agent
   pub nets : (agent : ℕ) → n .net agent ≡ net (o .book) (tally-of o h .lines) agent

@@ -3,7 +3,8 @@ use mathlib.Core.Path.{_≡_}
 use mathlib.Core.List.{List, [], _∷_}
 use lib.IntN.{pos}
 use Rattle.std.specs.declared.result.Result.{Result}
-use Rattle.pairing.specs.Lines.{lot, net}
+use lib.ListN.{length}
+use Rattle.pairing.specs.Lines.{lot, notified, net}
 use Rattle.rules.specs.declared.session.Session.the-variants.{MembersNotices}
 use Rattle.rules.specs.declared.side.Side.the-variants.{Securities, Cash}
 use Rattle.rules.specs.declared.call.Call.{Call}
@@ -17,7 +18,7 @@ use Rattle.rules.specs.Examples.{opening}
 -- What is seen of an expiry that was just opened: nothing of its own yet, and all it was given as it was.
 abbrev pub at-first : Opening → Seen
 at-first o = record
-  { book = o .book; session = MembersNotices; lot = λ _ _. 0; table = o .table; draw = λ _. 0; net = λ _. pos 0; claim = λ _. pos 0
+  { book = o .book; session = MembersNotices; lot = λ _ _. 0; notified = λ _. 0; table = o .table; count = 0; draw = λ _. 0; net = λ _. pos 0; claim = λ _. pos 0
   ; securities = o .securities; cash = o .cash }
 
 -- What is seen after a history where all is as the tally tells.
@@ -26,7 +27,9 @@ as-told o h = record
   { book = o .book
   ; session = tally-of o h .session
   ; lot = lot (tally-of o h .lots)
+  ; notified = notified (tally-of o h .lots)
   ; table = over (tally-of o h .lines) (o .table)
+  ; count = length (tally-of o h .lines)
   ; draw = held (tally-of o h)
   ; net = net (o .book) (tally-of o h .lines)
   ; claim = claim (o .book) (tally-of o h)
