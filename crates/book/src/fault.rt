@@ -4,7 +4,7 @@ ghost use Rattle.book.specs.declared.fault.ReadFault.the-variants.{NoMemory};
 use std::alloc::Refused;
 
 // What is wrong with a file.
-#[derive(Clone, Copy, PartialEq, Eq, Debug)]
+#[derive(Clone, Copy)]
 pub enum Cause {
     // the first line is not `book,1`
     Heading,
@@ -23,7 +23,7 @@ pub enum Cause {
 }
 
 // A refused file: the cause, and where: the line and the field, from 1, or 0 where the cause has no such place.
-#[derive(Clone, Copy, PartialEq, Eq, Debug)]
+#[derive(Clone, Copy)]
 pub struct Refusal {
     pub cause: Cause,
     pub line: usize,
@@ -31,7 +31,7 @@ pub struct Refusal {
 }
 
 // Why a file gives no book: it is refused, or there is no memory.
-#[derive(Clone, Copy, PartialEq, Eq, Debug)]
+#[derive(Clone, Copy)]
 pub enum ReadFault {
     Refused(Refusal),
     NoMemory,
@@ -46,7 +46,7 @@ pub impl<T: Drop> From<Refused<T>> for ReadFault as ReadFaultFromRefused {
 }
 
 // Why a book gives no file.
-#[derive(Clone, Copy, PartialEq, Eq, Debug)]
+#[derive(Clone, Copy)]
 pub enum WriteFault {
     EmptyBook,
     SmallBuffer,
