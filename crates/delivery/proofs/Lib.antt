@@ -1,1 +1,4 @@
+pub mod Outcomes
 pub mod Spreads
+pub mod PostedRuns
+pub mod HandedLines

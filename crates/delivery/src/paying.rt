@@ -1,0 +1,115 @@
+// What the house pays out: units line by line, to buyers or back to sellers, and cash agent by agent.
+ghost use mathlib.Core.Path.{_≡_};
+ghost use mathlib.Core.Bool.{cond};
+ghost use mathlib.Core.List.{List};
+ghost use Prim.Native.Nat.{ℕ, _+_, _*_, _≤_};
+ghost use lib.Dec.{eqb};
+ghost use lib.ListN.{getD};
+ghost use Rattle.std.specs.declared.result.Result.the-variants.{Ok};
+ghost use Rattle.register.specs.Registers.{meaning};
+ghost use Rattle.register.specs.Rules.{transfer-answer, after-transfer};
+ghost use Rattle.rules.specs.declared.side.Side.the-variants.{Securities, Cash};
+ghost use Rattle.pairing.specs.Lines.{inside as insideOf};
+ghost use Rattle.rules.specs.Tally.{house, settle, give-back};
+ghost use Rattle.delivery.specs.Widths.{most-32};
+ghost use Rattle.delivery.specs.Handing.{receiver, handed, units-to, to-buyer, to-seller, Hands-out, Hands-on};
+use pairing::line::Line;
+use register::balances::Balances;
+use register::fault::RegisterFault;
+use register::transfers::Transfers;
+use rules::side::Side;
+use crate::fault::SideFault;
+use crate::fault::on;
+use crate::taking::HOUSE;
+
+// Who gets the units of contracts that are in: the buyer, and they are settled; or the seller, and they are returned.
+#[derive(Clone, Copy)]
+pub enum Receiver {
+    Buyer,
+    Seller,
+}
+
+// The contracts of a line that are in: taken, and neither settled nor returned.
+pub fn inside(line: &Line) -> u32
+    ensures taken_less_settled_and_returned { λ r. ⌜ r ≡ insideOf (now (line .entry)) ⌝ }
+    ensures room_to_count_them { λ r. ⌜ (now (line .entry) .settled + r ≤ most-32) × (now (line .entry) .returned + r ≤ most-32) ⌝ }
+{
+    line.taken.saturating_sub(line.settled).saturating_sub(line.returned)
+}
+
+// Pays an amount out of the house's account; nothing where it is 0.
+pub fn pay<R: Transfers>(register: &mut R, taker: usize, asset: usize, amount: u64) -> Result<(), RegisterFault>
+    ensures answers_by_the_rules { λ r. ⌜ r ≡ cond (eqb amount 0) (Ok tt) (transfer-answer (meaning R·Balances (now (register .entry))) house taker asset amount) ⌝ }
+    ensures meaning_follows_the_rules { λ _. ⌜ meaning R·Balances (now (register .exit)) ≡ cond (eqb amount 0) (meaning R·Balances (now (register .entry))) (after-transfer (meaning R·Balances (now (register .entry))) house taker asset amount) ⌝ }
+    ensures memory_is_kept { λ _. ⌜ R·Balances .lender (now (register .exit)) ≡ R·Balances .lender (now (register .entry)) ⌝ }
+{
+    if amount == 0 {
+        return Ok(());
+    }
+    register.transfer(HOUSE, taker, asset, amount)
+}
+
+impl Receiver {
+    // The account of a holder is its row.
+    fn account(&self, line: &Line) -> usize
+        ensures { λ r. ⌜ r ≡ receiver (now (self .entry)) (now (line .entry)) ⌝ }
+    {
+        match self {
+            Receiver::Buyer => usize::from(line.buyer),
+            Receiver::Seller => usize::from(line.seller),
+        }
+    }
+
+    // Counts the contracts in as settled or returned.
+    fn count(&self, line: &mut Line)
+        ensures { λ _. ⌜ now (line .exit) ≡ handed (now (self .entry)) (now (line .entry)) ⌝ }
+    {
+        let contracts = inside(line);
+        match self {
+            Receiver::Buyer => {
+                line.settled += contracts;
+            }
+            Receiver::Seller => {
+                line.returned += contracts;
+            }
+        }
+    }
+}
+
+// Hands the units of a line's contracts in to the receiver.
+fn hand_on<S: Transfers>(line: &mut Line, to: Receiver, multiplier: u32, securities: &mut S) -> Result<(), SideFault>
+    ensures hands { λ r. ⌜ Hands-on to multiplier (now (line .entry)) (now (line .exit)) (meaning S·Balances (now (securities .entry))) (meaning S·Balances (now (securities .exit))) r ⌝ }
+    ensures memory_is_kept { λ _. ⌜ S·Balances .lender (now (securities .exit)) ≡ S·Balances .lender (now (securities .entry)) ⌝ }
+{
+    let units = u64::from(multiplier) * u64::from(inside(line));
+    on(Side::Securities, pay(securities, to.account(line), usize::from(line.asset), units))?;
+    to.count(line);
+    Ok(())
+}
+
+// Hands the units of all contracts in to the receiver of their line, in line order.
+fn hand_out<S: Transfers>(lines: &mut [Line], to: Receiver, multiplier: u32, securities: &mut S) -> Result<(), SideFault>
+    ensures hands { λ r. ⌜ Hands-out to multiplier (now (lines .entry)) (now (lines .exit)) (meaning S·Balances (now (securities .entry))) (meaning S·Balances (now (securities .exit))) r ⌝ }
+    ensures memory_is_kept { λ _. ⌜ S·Balances .lender (now (securities .exit)) ≡ S·Balances .lender (now (securities .entry)) ⌝ }
+{
+    for line in lines.iter_mut() {
+        hand_on(line, to, multiplier, securities)?;
+    }
+    Ok(())
+}
+
+// Delivers the units of all contracts in to their buyers, and counts them as settled.
+pub fn settle_units<S: Transfers>(lines: &mut [Line], multiplier: u32, securities: &mut S) -> Result<(), SideFault>
+    ensures settles_where_no_move_is_refused { λ r. ⌜ Hands-out to-buyer multiplier (now (lines .entry)) (now (lines .exit)) (meaning S·Balances (now (securities .entry))) (meaning S·Balances (now (securities .exit))) r ⌝ }
+    ensures memory_is_kept { λ _. ⌜ S·Balances .lender (now (securities .exit)) ≡ S·Balances .lender (now (securities .entry)) ⌝ }
+{
+    hand_out(lines, Receiver::Buyer, multiplier, securities)
+}
+
+// Gives the units of all contracts in back to their sellers, and counts them as returned.
+pub fn return_units<S: Transfers>(lines: &mut [Line], multiplier: u32, securities: &mut S) -> Result<(), SideFault>
+    ensures returns_where_no_move_is_refused { λ r. ⌜ Hands-out to-seller multiplier (now (lines .entry)) (now (lines .exit)) (meaning S·Balances (now (securities .entry))) (meaning S·Balances (now (securities .exit))) r ⌝ }
+    ensures memory_is_kept { λ _. ⌜ S·Balances .lender (now (securities .exit)) ≡ S·Balances .lender (now (securities .entry)) ⌝ }
+{
+    hand_out(lines, Receiver::Seller, multiplier, securities)
+}
