@@ -2,3 +2,8 @@ pub mod Outcomes
 pub mod Spreads
 pub mod PostedRuns
 pub mod HandedLines
+pub mod PaidAgents
+pub mod WideAmounts
+pub mod PaidLine
+pub mod NobodyPast
+pub mod SettledLine

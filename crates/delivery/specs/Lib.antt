@@ -1,3 +1,4 @@
 pub mod Sides
 pub mod Widths
 pub mod Handing
+pub mod Settling

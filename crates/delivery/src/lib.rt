@@ -2,3 +2,4 @@
 pub mod fault;
 pub mod taking;
 pub mod paying;
+pub mod settling;

@@ -10,9 +10,10 @@ ghost use Rattle.register.specs.Registers.{meaning};
 ghost use Rattle.register.specs.Rules.{transfer-answer, after-transfer};
 ghost use Rattle.rules.specs.declared.side.Side.the-variants.{Securities, Cash};
 ghost use Rattle.pairing.specs.Lines.{inside as insideOf};
-ghost use Rattle.rules.specs.Tally.{house, settle, give-back};
+ghost use Rattle.rules.specs.Tally.{house, cash-asset};
 ghost use Rattle.delivery.specs.Widths.{most-32};
-ghost use Rattle.delivery.specs.Handing.{receiver, handed, units-to, to-buyer, to-seller, Hands-out, Hands-on};
+ghost use Rattle.delivery.specs.Handing.{receiver, handed, units-to, to-buyer, to-seller, Hands-out, Hands-on, Pays-cash, paid-agents};
+ghost use Rattle.rules.specs.Postings.{pays};
 use pairing::line::Line;
 use register::balances::Balances;
 use register::fault::RegisterFault;
@@ -21,6 +22,12 @@ use rules::side::Side;
 use crate::fault::SideFault;
 use crate::fault::on;
 use crate::taking::HOUSE;
+
+// In the cash register the asset that is cash.
+pub const CASH: usize = 0;
+
+// Places for amounts by agent: agents are numbered from 1, and no book has one above 64.
+pub const AGENT_PLACES: usize = 65;
 
 // Who gets the units of contracts that are in: the buyer, and they are settled; or the seller, and they are returned.
 #[derive(Clone, Copy)]
@@ -77,7 +84,7 @@ impl Receiver {
 }
 
 // Hands the units of a line's contracts in to the receiver.
-fn hand_on<S: Transfers>(line: &mut Line, to: Receiver, multiplier: u32, securities: &mut S) -> Result<(), SideFault>
+pub(crate) fn hand_on<S: Transfers>(line: &mut Line, to: Receiver, multiplier: u32, securities: &mut S) -> Result<(), SideFault>
     ensures hands { λ r. ⌜ Hands-on to multiplier (now (line .entry)) (now (line .exit)) (meaning S·Balances (now (securities .entry))) (meaning S·Balances (now (securities .exit))) r ⌝ }
     ensures memory_is_kept { λ _. ⌜ S·Balances .lender (now (securities .exit)) ≡ S·Balances .lender (now (securities .entry)) ⌝ }
 {
@@ -112,4 +119,24 @@ pub fn return_units<S: Transfers>(lines: &mut [Line], multiplier: u32, securitie
     ensures memory_is_kept { λ _. ⌜ S·Balances .lender (now (securities .exit)) ≡ S·Balances .lender (now (securities .entry)) ⌝ }
 {
     hand_out(lines, Receiver::Seller, multiplier, securities)
+}
+
+// Pays one agent an amount of cash.
+fn pay_agent<C: Transfers>(cash: &mut C, agent: usize, amount: u64) -> Result<(), SideFault>
+    ensures pays { λ r. ⌜ Pays-cash (pays Cash agent cash-asset amount) (meaning C·Balances (now (cash .entry))) (meaning C·Balances (now (cash .exit))) r ⌝ }
+    ensures memory_is_kept { λ _. ⌜ C·Balances .lender (now (cash .exit)) ≡ C·Balances .lender (now (cash .entry)) ⌝ }
+{
+    on(Side::Cash, pay(cash, agent, CASH, amount))?;
+    Ok(())
+}
+
+// Pays each agent its amount of cash, by ascending number; nothing where it is 0. Place 0 is nobody's.
+pub fn pay_agents<C: Transfers>(cash: &mut C, amounts: &[u64; AGENT_PLACES]) -> Result<(), SideFault>
+    ensures pays_where_no_move_is_refused { λ r. ⌜ Pays-cash (paid-agents (now (amounts .entry))) (meaning C·Balances (now (cash .entry))) (meaning C·Balances (now (cash .exit))) r ⌝ }
+    ensures memory_is_kept { λ _. ⌜ C·Balances .lender (now (cash .exit)) ≡ C·Balances .lender (now (cash .entry)) ⌝ }
+{
+    for agent in 1..AGENT_PLACES {
+        pay_agent(cash, agent, amounts[agent])?;
+    }
+    Ok(())
 }

@@ -1,0 +1,82 @@
+// One line settled by itself: its value through the house to the seller's agent, its units to the buyer.
+ghost use mathlib.Core.Path.{_≡_};
+ghost use mathlib.Core.List.{List};
+ghost use Prim.Native.Nat.{ℕ, _*_, min};
+ghost use Rattle.register.specs.Registers.{meaning};
+ghost use Rattle.register.specs.Rules.{transfer-answer, after-transfer};
+ghost use Rattle.book.specs.Data.{contents};
+ghost use Rattle.book.specs.Books.{holder};
+ghost use Rattle.delivery.specs.Widths.{most-64};
+ghost use Rattle.delivery.specs.Settling.{line-cash, Pays-for, Settles, Unpaid-stays};
+use book::book::Book;
+use pairing::line::Line;
+use register::balances::Balances;
+use register::fault::RegisterFault;
+use register::transfers::Transfers;
+use rules::side::Side;
+use crate::fault::SideFault;
+use crate::fault::on;
+use crate::paying::CASH;
+use crate::paying::Receiver;
+use crate::paying::hand_on;
+use crate::paying::inside;
+use crate::taking::HOUSE;
+
+// The payment agent of the holder in a row; 0 where there is nobody.
+pub fn agent_of(book: &Book, row: u16) -> usize
+    ensures agent_of_the_row { λ r. ⌜ r ≡ holder (contents (now (book .entry))) row .agent ⌝ }
+{
+    let holders = book.holders();
+    if row == 0 {
+        return 0;
+    }
+    let place = usize::from(row) - 1;
+    if place < holders.len() { usize::from(holders[place].agent) } else { 0 }
+}
+
+// As much of an amount as 64 bits hold.
+fn narrowed(amount: u128) -> u64
+    ensures { λ r. ⌜ r ≡ min amount most-64 ⌝ }
+{
+    amount.min(u128::from(u64::MAX)) as u64
+}
+
+// Moves an amount of any width. No balance comes near the most that 64 bits hold, so that what is wider is as short as that.
+fn shift<R: Transfers>(register: &mut R, giver: usize, taker: usize, asset: usize, amount: u128) -> Result<(), RegisterFault>
+    ensures answers_by_the_rules { λ r. ⌜ r ≡ transfer-answer (meaning R·Balances (now (register .entry))) giver taker asset amount ⌝ }
+    ensures meaning_follows_the_rules { λ _. ⌜ meaning R·Balances (now (register .exit)) ≡ after-transfer (meaning R·Balances (now (register .entry))) giver taker asset amount ⌝ }
+    ensures memory_is_kept { λ _. ⌜ R·Balances .lender (now (register .exit)) ≡ R·Balances .lender (now (register .entry)) ⌝ }
+{
+    register.transfer(giver, taker, asset, narrowed(amount))
+}
+
+// Moves the value of a line's contracts in from the buyer's agent to the house, and on to the seller's agent.
+fn pay_for<C: Transfers>(book: &Book, line: &Line, cash: &mut C) -> Result<(), SideFault>
+    ensures pays { λ r. ⌜ Pays-for (line-cash (contents (now (book .entry))) (now (line .entry))) (meaning C·Balances (now (cash .entry))) (meaning C·Balances (now (cash .exit))) r ⌝ }
+    ensures memory_is_kept { λ _. ⌜ C·Balances .lender (now (cash .exit)) ≡ C·Balances .lender (now (cash .entry)) ⌝ }
+{
+    let worth = book.value(usize::from(line.asset), inside(line));
+    on(Side::Cash, shift(cash, agent_of(book, line.buyer), HOUSE, CASH, worth))?;
+    on(Side::Cash, shift(cash, HOUSE, agent_of(book, line.seller), CASH, worth))?;
+    Ok(())
+}
+
+fn settle_one<S: Transfers, C: Transfers>(book: &Book, line: &mut Line, securities: &mut S, cash: &mut C) -> Result<(), SideFault>
+    ensures settles_where_no_move_is_refused { λ r. ⌜ Settles (contents (now (book .entry))) (now (line .entry)) (now (line .exit)) (meaning S·Balances (now (securities .entry))) (meaning S·Balances (now (securities .exit))) (meaning C·Balances (now (cash .entry))) (meaning C·Balances (now (cash .exit))) r ⌝ }
+    ensures refused_moves_nothing { λ r. ⌜ Unpaid-stays (contents (now (book .entry))) (now (line .entry)) (now (line .exit)) (meaning S·Balances (now (securities .entry))) (meaning S·Balances (now (securities .exit))) (meaning C·Balances (now (cash .entry))) (meaning C·Balances (now (cash .exit))) r ⌝ }
+    ensures memory_is_kept { λ _. ⌜ (S·Balances .lender (now (securities .exit)) ≡ S·Balances .lender (now (securities .entry))) × (C·Balances .lender (now (cash .exit)) ≡ C·Balances .lender (now (cash .entry))) ⌝ }
+{
+    pay_for(book, line, cash)?;
+    hand_on(line, Receiver::Buyer, book.terms().multiplier, securities)?;
+    Ok(())
+}
+
+// Settles the contracts in of one line: the value of them goes from the buyer's agent through the house to the seller's
+// agent, their units to the buyer. Where the buyer's agent is short of it, nothing moves.
+pub fn settle_line<S: Transfers, C: Transfers>(book: &Book, line: &mut Line, securities: &mut S, cash: &mut C) -> Result<(), SideFault>
+    ensures settles_where_no_move_is_refused { λ r. ⌜ Settles (contents (now (book .entry))) (now (line .entry)) (now (line .exit)) (meaning S·Balances (now (securities .entry))) (meaning S·Balances (now (securities .exit))) (meaning C·Balances (now (cash .entry))) (meaning C·Balances (now (cash .exit))) r ⌝ }
+    ensures refused_moves_nothing { λ r. ⌜ Unpaid-stays (contents (now (book .entry))) (now (line .entry)) (now (line .exit)) (meaning S·Balances (now (securities .entry))) (meaning S·Balances (now (securities .exit))) (meaning C·Balances (now (cash .entry))) (meaning C·Balances (now (cash .exit))) r ⌝ }
+    ensures memory_is_kept { λ _. ⌜ (S·Balances .lender (now (securities .exit)) ≡ S·Balances .lender (now (securities .entry))) × (C·Balances .lender (now (cash .exit)) ≡ C·Balances .lender (now (cash .entry))) ⌝ }
+{
+    settle_one(book, line, securities, cash)
+}
