@@ -9,7 +9,8 @@ use Prim.Native.Nat.{_*_}
 use Rattle.rules.specs.declared.side.Side.the-variants.{Securities, Cash}
 use Rattle.rules.specs.Tally.{house, cash-asset}
 use Rattle.rules.specs.Postings.{Posting, moves, pays, posted, all-posted, None-refused}
-use Rattle.delivery.specs.Handing.{to-buyer, units-to}
+use Rattle.delivery.specs.Parties.{to-buyer}
+use Rattle.delivery.specs.Handing.{units-to}
 use Rattle.delivery.specs.Settling.{worth, line-cash, line-postings}
 use Rattle.delivery.proofs.PostedRuns.{units-leave-cash, cash-leaves-units, only-first, only-second}
 

@@ -10,41 +10,25 @@ use Rattle.pairing.specs.Lines.{inside}
 use lib.ListN.{getD}
 use Rattle.rules.specs.declared.side.Side.{Side}
 use Rattle.rules.specs.declared.side.Side.the-variants.{Securities, Cash}
-use Rattle.rules.specs.Tally.{cash-asset, settle, give-back}
+use Rattle.rules.specs.Tally.{cash-asset}
 use Rattle.rules.specs.Postings.{Posting, pays, for-each, for-agents, all-posted, None-refused}
 use Rattle.delivery.specs.declared.fault.SideFault.{SideFault}
-use Rattle.delivery.specs.declared.paying.Receiver.{Receiver}
-use Rattle.delivery.specs.declared.paying.Receiver.the-variants.{Buyer, Seller}
-
-abbrev pub to-buyer : Receiver
-to-buyer = Buyer
-
-abbrev pub to-seller : Receiver
-to-seller = Seller
-
--- The holder of a line that gets its units.
-abbrev pub receiver : Receiver → Line → ℕ
-receiver Buyer l = l .buyer
-receiver Seller l = l .seller
-
--- The line afterwards: a buyer's units are settled, a seller's are returned.
-abbrev pub handed : Receiver → Line → Line
-handed Buyer l = settle l
-handed Seller l = give-back l
+use Rattle.delivery.specs.declared.party.Party.{Party}
+use Rattle.delivery.specs.Parties.{row-on, handed}
 
 -- The units of its contracts in, to the one or the other.
-abbrev pub units-to : Receiver → ℕ → Line → List Posting
-units-to to multiplier l = pays Securities (receiver to l) (l .asset) (multiplier * inside l)
+abbrev pub units-to : Party → ℕ → Line → List Posting
+units-to to multiplier l = pays Securities (row-on to l) (l .asset) (multiplier * inside l)
 
 -- Postings made of a register are all accepted, where it would refuse none of them, and other things are as they should be.
 abbrev pub Posted-and : Side → List Posting → Meaning → Meaning → Result (Unit {0}) SideFault → Type 0 → Type 0
 Posted-and side ps m m′ r and = None-refused side m ps → (r ≡ Ok tt) × (m′ ≡ all-posted side m ps) × and
 
 -- One line handed on, and all lines.
-abbrev pub Hands-on : Receiver → ℕ → Line → Line → Meaning → Meaning → Result (Unit {0}) SideFault → Type 0
+abbrev pub Hands-on : Party → ℕ → Line → Line → Meaning → Meaning → Result (Unit {0}) SideFault → Type 0
 Hands-on to multiplier l l′ m m′ r = Posted-and Securities (units-to to multiplier l) m m′ r (l′ ≡ handed to l)
 
-abbrev pub Hands-out : Receiver → ℕ → List Line → List Line → Meaning → Meaning → Result (Unit {0}) SideFault → Type 0
+abbrev pub Hands-out : Party → ℕ → List Line → List Line → Meaning → Meaning → Result (Unit {0}) SideFault → Type 0
 Hands-out to multiplier ls ls′ m m′ r = Posted-and Securities (for-each (units-to to multiplier) ls) m m′ r (ls′ ≡ map (handed to) ls)
 
 -- Cash is paid where no move of it would be refused.

@@ -1,4 +1,5 @@
 pub mod Sides
 pub mod Widths
+pub mod Parties
 pub mod Handing
 pub mod Settling

@@ -15,7 +15,8 @@ use Rattle.rules.specs.declared.side.Side.the-variants.{Securities, Cash}
 use Rattle.rules.specs.Tally.{house, cash-asset, settle}
 use Rattle.rules.specs.Postings.{Posting, moves, pays, refusal, all-posted, None-refused}
 use Rattle.delivery.specs.declared.fault.SideFault.{SideFault}
-use Rattle.delivery.specs.Handing.{to-buyer, units-to}
+use Rattle.delivery.specs.Parties.{to-buyer}
+use Rattle.delivery.specs.Handing.{units-to}
 
 -- The value of a line's contracts in.
 abbrev pub worth : Contents → Line → ℕ

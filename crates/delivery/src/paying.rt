@@ -1,18 +1,14 @@
 // What the house pays out: units line by line, to buyers or back to sellers, and cash agent by agent.
 ghost use mathlib.Core.Path.{_≡_};
 ghost use mathlib.Core.Bool.{cond};
-ghost use mathlib.Core.List.{List};
-ghost use Prim.Native.Nat.{ℕ, _+_, _*_, _≤_};
 ghost use lib.Dec.{eqb};
-ghost use lib.ListN.{getD};
 ghost use Rattle.std.specs.declared.result.Result.the-variants.{Ok};
 ghost use Rattle.register.specs.Registers.{meaning};
 ghost use Rattle.register.specs.Rules.{transfer-answer, after-transfer};
-ghost use Rattle.rules.specs.declared.side.Side.the-variants.{Securities, Cash};
-ghost use Rattle.pairing.specs.Lines.{inside as insideOf};
+ghost use Rattle.rules.specs.declared.side.Side.the-variants.{Cash};
 ghost use Rattle.rules.specs.Tally.{house, cash-asset};
-ghost use Rattle.delivery.specs.Widths.{most-32};
-ghost use Rattle.delivery.specs.Handing.{receiver, handed, units-to, to-buyer, to-seller, Hands-out, Hands-on, Pays-cash, paid-agents};
+ghost use Rattle.delivery.specs.Parties.{to-buyer, to-seller};
+ghost use Rattle.delivery.specs.Handing.{Hands-out, Hands-on, Pays-cash, paid-agents};
 ghost use Rattle.rules.specs.Postings.{pays};
 use pairing::line::Line;
 use register::balances::Balances;
@@ -21,6 +17,8 @@ use register::transfers::Transfers;
 use rules::side::Side;
 use crate::fault::SideFault;
 use crate::fault::on;
+use crate::party::Party;
+use crate::party::inside;
 use crate::taking::HOUSE;
 
 // In the cash register the asset that is cash.
@@ -28,21 +26,6 @@ pub const CASH: usize = 0;
 
 // Places for amounts by agent: agents are numbered from 1, and no book has one above 64.
 pub const AGENT_PLACES: usize = 65;
-
-// Who gets the units of contracts that are in: the buyer, and they are settled; or the seller, and they are returned.
-#[derive(Clone, Copy)]
-pub enum Receiver {
-    Buyer,
-    Seller,
-}
-
-// The contracts of a line that are in: taken, and neither settled nor returned.
-pub fn inside(line: &Line) -> u32
-    ensures taken_less_settled_and_returned { λ r. ⌜ r ≡ insideOf (now (line .entry)) ⌝ }
-    ensures room_to_count_them { λ r. ⌜ (now (line .entry) .settled + r ≤ most-32) × (now (line .entry) .returned + r ≤ most-32) ⌝ }
-{
-    line.taken.saturating_sub(line.settled).saturating_sub(line.returned)
-}
 
 // Pays an amount out of the house's account; nothing where it is 0.
 pub fn pay<R: Transfers>(register: &mut R, taker: usize, asset: usize, amount: u64) -> Result<(), RegisterFault>
@@ -56,35 +39,8 @@ pub fn pay<R: Transfers>(register: &mut R, taker: usize, asset: usize, amount: u
     register.transfer(HOUSE, taker, asset, amount)
 }
 
-impl Receiver {
-    // The account of a holder is its row.
-    fn account(&self, line: &Line) -> usize
-        ensures { λ r. ⌜ r ≡ receiver (now (self .entry)) (now (line .entry)) ⌝ }
-    {
-        match self {
-            Receiver::Buyer => usize::from(line.buyer),
-            Receiver::Seller => usize::from(line.seller),
-        }
-    }
-
-    // Counts the contracts in as settled or returned.
-    fn count(&self, line: &mut Line)
-        ensures { λ _. ⌜ now (line .exit) ≡ handed (now (self .entry)) (now (line .entry)) ⌝ }
-    {
-        let contracts = inside(line);
-        match self {
-            Receiver::Buyer => {
-                line.settled += contracts;
-            }
-            Receiver::Seller => {
-                line.returned += contracts;
-            }
-        }
-    }
-}
-
 // Hands the units of a line's contracts in to the receiver.
-pub(crate) fn hand_on<S: Transfers>(line: &mut Line, to: Receiver, multiplier: u32, securities: &mut S) -> Result<(), SideFault>
+pub(crate) fn hand_on<S: Transfers>(line: &mut Line, to: Party, multiplier: u32, securities: &mut S) -> Result<(), SideFault>
     ensures hands { λ r. ⌜ Hands-on to multiplier (now (line .entry)) (now (line .exit)) (meaning S·Balances (now (securities .entry))) (meaning S·Balances (now (securities .exit))) r ⌝ }
     ensures memory_is_kept { λ _. ⌜ S·Balances .lender (now (securities .exit)) ≡ S·Balances .lender (now (securities .entry)) ⌝ }
 {
@@ -95,7 +51,7 @@ pub(crate) fn hand_on<S: Transfers>(line: &mut Line, to: Receiver, multiplier: u
 }
 
 // Hands the units of all contracts in to the receiver of their line, in line order.
-fn hand_out<S: Transfers>(lines: &mut [Line], to: Receiver, multiplier: u32, securities: &mut S) -> Result<(), SideFault>
+fn hand_out<S: Transfers>(lines: &mut [Line], to: Party, multiplier: u32, securities: &mut S) -> Result<(), SideFault>
     ensures hands { λ r. ⌜ Hands-out to multiplier (now (lines .entry)) (now (lines .exit)) (meaning S·Balances (now (securities .entry))) (meaning S·Balances (now (securities .exit))) r ⌝ }
     ensures memory_is_kept { λ _. ⌜ S·Balances .lender (now (securities .exit)) ≡ S·Balances .lender (now (securities .entry)) ⌝ }
 {
@@ -110,7 +66,7 @@ pub fn settle_units<S: Transfers>(lines: &mut [Line], multiplier: u32, securitie
     ensures settles_where_no_move_is_refused { λ r. ⌜ Hands-out to-buyer multiplier (now (lines .entry)) (now (lines .exit)) (meaning S·Balances (now (securities .entry))) (meaning S·Balances (now (securities .exit))) r ⌝ }
     ensures memory_is_kept { λ _. ⌜ S·Balances .lender (now (securities .exit)) ≡ S·Balances .lender (now (securities .entry)) ⌝ }
 {
-    hand_out(lines, Receiver::Buyer, multiplier, securities)
+    hand_out(lines, Party::Buyer, multiplier, securities)
 }
 
 // Gives the units of all contracts in back to their sellers, and counts them as returned.
@@ -118,7 +74,7 @@ pub fn return_units<S: Transfers>(lines: &mut [Line], multiplier: u32, securitie
     ensures returns_where_no_move_is_refused { λ r. ⌜ Hands-out to-seller multiplier (now (lines .entry)) (now (lines .exit)) (meaning S·Balances (now (securities .entry))) (meaning S·Balances (now (securities .exit))) r ⌝ }
     ensures memory_is_kept { λ _. ⌜ S·Balances .lender (now (securities .exit)) ≡ S·Balances .lender (now (securities .entry)) ⌝ }
 {
-    hand_out(lines, Receiver::Seller, multiplier, securities)
+    hand_out(lines, Party::Seller, multiplier, securities)
 }
 
 // Pays one agent an amount of cash.

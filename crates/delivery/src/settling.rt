@@ -5,7 +5,6 @@ ghost use Prim.Native.Nat.{ℕ, _*_, min};
 ghost use Rattle.register.specs.Registers.{meaning};
 ghost use Rattle.register.specs.Rules.{transfer-answer, after-transfer};
 ghost use Rattle.book.specs.Data.{contents};
-ghost use Rattle.book.specs.Books.{holder};
 ghost use Rattle.delivery.specs.Widths.{most-64};
 ghost use Rattle.delivery.specs.Settling.{line-cash, Pays-for, Settles, Unpaid-stays};
 use book::book::Book;
@@ -17,25 +16,13 @@ use rules::side::Side;
 use crate::fault::SideFault;
 use crate::fault::on;
 use crate::paying::CASH;
-use crate::paying::Receiver;
+use crate::party::Party;
+use crate::party::inside;
 use crate::paying::hand_on;
-use crate::paying::inside;
 use crate::taking::HOUSE;
 
-// The payment agent of the holder in a row; 0 where there is nobody.
-pub fn agent_of(book: &Book, row: u16) -> usize
-    ensures agent_of_the_row { λ r. ⌜ r ≡ holder (contents (now (book .entry))) row .agent ⌝ }
-{
-    let holders = book.holders();
-    if row == 0 {
-        return 0;
-    }
-    let place = usize::from(row) - 1;
-    if place < holders.len() { usize::from(holders[place].agent) } else { 0 }
-}
-
 // As much of an amount as 64 bits hold.
-fn narrowed(amount: u128) -> u64
+pub(crate) fn narrowed(amount: u128) -> u64
     ensures { λ r. ⌜ r ≡ min amount most-64 ⌝ }
 {
     amount.min(u128::from(u64::MAX)) as u64
@@ -56,8 +43,8 @@ fn pay_for<C: Transfers>(book: &Book, line: &Line, cash: &mut C) -> Result<(), S
     ensures memory_is_kept { λ _. ⌜ C·Balances .lender (now (cash .exit)) ≡ C·Balances .lender (now (cash .entry)) ⌝ }
 {
     let worth = book.value(usize::from(line.asset), inside(line));
-    on(Side::Cash, shift(cash, agent_of(book, line.buyer), HOUSE, CASH, worth))?;
-    on(Side::Cash, shift(cash, HOUSE, agent_of(book, line.seller), CASH, worth))?;
+    on(Side::Cash, shift(cash, Party::Buyer.agent(book, line), HOUSE, CASH, worth))?;
+    on(Side::Cash, shift(cash, HOUSE, Party::Seller.agent(book, line), CASH, worth))?;
     Ok(())
 }
 
@@ -67,7 +54,7 @@ fn settle_one<S: Transfers, C: Transfers>(book: &Book, line: &mut Line, securiti
     ensures memory_is_kept { λ _. ⌜ (S·Balances .lender (now (securities .exit)) ≡ S·Balances .lender (now (securities .entry))) × (C·Balances .lender (now (cash .exit)) ≡ C·Balances .lender (now (cash .entry))) ⌝ }
 {
     pay_for(book, line, cash)?;
-    hand_on(line, Receiver::Buyer, book.terms().multiplier, securities)?;
+    hand_on(line, Party::Buyer, book.terms().multiplier, securities)?;
     Ok(())
 }
 

@@ -5,7 +5,8 @@ use lib.ListN.{length}
 use Rattle.register.specs.Registers.{meaning}
 use Rattle.rules.specs.declared.side.Side.the-variants.{Securities}
 use Rattle.rules.specs.Tally.{no-line}
-use Rattle.delivery.specs.Handing.{units-to, handed}
+use Rattle.delivery.specs.Parties.{handed}
+use Rattle.delivery.specs.Handing.{units-to}
 use Rattle.delivery.proofs.Outcomes.{ok-err}
 use Rattle.delivery.proofs.HandedLines.{going-here, going-more, going-all}
 use Rattle.delivery.proofs.paying.hand_out.Needs as need

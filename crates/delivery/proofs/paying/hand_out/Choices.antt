@@ -2,7 +2,8 @@ use Rattle.register.specs.Registers.{meaning}
 use Rattle.rules.specs.declared.side.Side.the-variants.{Securities}
 use Rattle.rules.specs.Postings.{for-each, None-refused}
 use mathlib.Core.Path.{_≡_}
-use Rattle.delivery.specs.Handing.{units-to, handed}
+use Rattle.delivery.specs.Parties.{handed}
+use Rattle.delivery.specs.Handing.{units-to}
 use Rattle.delivery.proofs.HandedLines.{Going}
 use Rattle.delivery.proofs.paying.hand_out.Given as given
 

@@ -8,7 +8,8 @@ use Rattle.book.specs.Data.{contents}
 use Rattle.book.specs.Books.{Contents}
 use Rattle.rules.specs.declared.side.Side.the-variants.{Securities}
 use Rattle.rules.specs.Postings.{all-posted, None-refused}
-use Rattle.delivery.specs.Handing.{to-buyer, units-to}
+use Rattle.delivery.specs.Parties.{to-buyer}
+use Rattle.delivery.specs.Handing.{units-to}
 use Rattle.delivery.proofs.Outcomes.{ok-err}
 use Rattle.delivery.proofs.SettledLine.{line-cash-only, line-units-only}
 use Rattle.delivery.proofs.settling.settle_one.Needs as need

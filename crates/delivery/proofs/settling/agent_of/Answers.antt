@@ -1,9 +1,0 @@
-use mathlib.Core.Path.{ap}
-use native.Mathlib.Omega.{arith}
-use lib.ListN.{length}
-use Rattle.book.specs.Data.{contents}
-use Rattle.delivery.proofs.NobodyPast.{nobody-past}
-use Rattle.delivery.proofs.settling.agent_of.Needs as need
-
-pub returns-else-place-holders : need.returns-else-place-holders
-returns-else-place-holders c = record { agent-of-the-row = nobody-past (contents (c .args .book .now)) (c .args .row) (omega (arith, ap length (c .holders-holders .ensures .value))) }
