@@ -5,5 +5,8 @@ pub mod HandedLines
 pub mod PaidAgents
 pub mod WideAmounts
 pub mod PaidLine
-pub mod NobodyPast
+pub mod PastTheLast
 pub mod SettledLine
+pub mod OpenLines
+pub mod FilledPlaces
+pub mod ClaimSums

@@ -3,3 +3,4 @@ pub mod Widths
 pub mod Parties
 pub mod Handing
 pub mod Settling
+pub mod Sums

@@ -8,3 +8,7 @@ most-32 = 4294967295
 -- Values have 64 bits.
 abbrev pub most-64 : ℕ
 most-64 = 18446744073709551615
+
+-- Nets and claims have 64 bits with a sign.
+abbrev pub most-63 : ℕ
+most-63 = 9223372036854775807

@@ -4,3 +4,4 @@ pub mod taking;
 pub mod party;
 pub mod paying;
 pub mod settling;
+pub mod sums;

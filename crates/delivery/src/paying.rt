@@ -19,10 +19,8 @@ use crate::fault::SideFault;
 use crate::fault::on;
 use crate::party::Party;
 use crate::party::inside;
+use crate::taking::CASH;
 use crate::taking::HOUSE;
-
-// In the cash register the asset that is cash.
-pub const CASH: usize = 0;
 
 // Places for amounts by agent: agents are numbered from 1, and no book has one above 64.
 pub const AGENT_PLACES: usize = 65;

@@ -15,10 +15,10 @@ use register::transfers::Transfers;
 use rules::side::Side;
 use crate::fault::SideFault;
 use crate::fault::on;
-use crate::paying::CASH;
 use crate::party::Party;
 use crate::party::inside;
 use crate::paying::hand_on;
+use crate::taking::CASH;
 use crate::taking::HOUSE;
 
 // As much of an amount as 64 bits hold.

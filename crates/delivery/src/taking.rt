@@ -1,12 +1,14 @@
-// Contracts outstanding, and how a take brings their units in.
+// What comes in to the house: the units of contracts taken, and draws of cash.
 ghost use mathlib.Core.Path.{_≡_};
-ghost use mathlib.Core.Bool.{cond};
+ghost use mathlib.Core.Bool.{cond, not};
+ghost use lib.Dec.{ltb};
+ghost use Rattle.order.specs.First.{any};
 ghost use Prim.Native.Nat.{ℕ, _-_, _*_, _/_, min};
 ghost use Rattle.register.specs.Registers.{meaning};
 ghost use Rattle.register.specs.Rules.{transfer-refused, transfer-answer, after-transfer, unless-refused};
-ghost use Rattle.rules.specs.declared.side.Side.the-variants.{Securities};
+ghost use Rattle.rules.specs.declared.side.Side.the-variants.{Securities, Cash};
 ghost use Rattle.pairing.specs.Lines.{of-seller, open-on, outstanding as outstandingOf};
-ghost use Rattle.rules.specs.Tally.{house, here, loaded, take-on};
+ghost use Rattle.rules.specs.Tally.{house, cash-asset, here, loaded, take-on};
 ghost use Rattle.delivery.specs.Sides.{on-side};
 ghost use Rattle.delivery.specs.Widths.{most-32};
 use pairing::line::Line;
@@ -18,6 +20,9 @@ use crate::fault::on;
 
 // In each register the house's own account, from which it pays and into which it takes.
 pub const HOUSE: usize = 0;
+
+// In the cash register the asset that is cash.
+pub const CASH: usize = 0;
 
 // Whether a line is of the seller in a row and of an asset.
 fn is_of(line: &Line, row: usize, asset: usize) -> bool
@@ -86,4 +91,25 @@ pub fn take<S: Transfers>(lines: &mut [Line], row: usize, asset: usize, contract
     on(Side::Securities, securities.transfer(row, HOUSE, asset, units))?;
     spread(lines, row, asset, contracts);
     Ok(())
+}
+
+// Whether no line has contracts left to be taken.
+pub fn all_taken(lines: &[Line]) -> bool
+    ensures none_is_open { λ r. ⌜ r ≡ not (any (λ l. ltb 0 (open-on l)) (now (lines .entry))) ⌝ }
+{
+    for line in lines {
+        if line.taken < line.contracts {
+            return false;
+        }
+    }
+    true
+}
+
+// Moves an amount of cash from an agent's account to the house's; a refusal leaves the register as it was.
+pub fn draw<C: Transfers>(cash: &mut C, agent: usize, amount: u64) -> Result<(), SideFault>
+    ensures answers_by_the_rules { λ r. ⌜ r ≡ on-side Cash (transfer-answer (meaning C·Balances (now (cash .entry))) agent house cash-asset amount) ⌝ }
+    ensures meaning_follows_the_rules { λ _. ⌜ meaning C·Balances (now (cash .exit)) ≡ after-transfer (meaning C·Balances (now (cash .entry))) agent house cash-asset amount ⌝ }
+    ensures memory_is_kept { λ _. ⌜ C·Balances .lender (now (cash .exit)) ≡ C·Balances .lender (now (cash .entry)) ⌝ }
+{
+    on(Side::Cash, cash.transfer(agent, HOUSE, CASH, amount))
 }

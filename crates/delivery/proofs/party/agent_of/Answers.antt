@@ -2,7 +2,7 @@ use mathlib.Core.Path.{ap}
 use native.Mathlib.Omega.{arith}
 use lib.ListN.{length}
 use Rattle.book.specs.Data.{contents}
-use Rattle.delivery.proofs.NobodyPast.{nobody-past}
+use Rattle.delivery.proofs.PastTheLast.{nobody-past}
 use Rattle.delivery.proofs.party.agent_of.Needs as need
 
 pub returns-else-place-holders : need.returns-else-place-holders
