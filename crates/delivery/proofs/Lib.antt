@@ -10,3 +10,4 @@ pub mod SettledLine
 pub mod OpenLines
 pub mod FilledPlaces
 pub mod ClaimSums
+pub mod WholeSides

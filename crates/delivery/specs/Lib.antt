@@ -4,3 +4,4 @@ pub mod Parties
 pub mod Handing
 pub mod Settling
 pub mod Sums
+pub mod Whole

@@ -5,3 +5,4 @@ pub mod party;
 pub mod paying;
 pub mod settling;
 pub mod sums;
+pub mod whole;
