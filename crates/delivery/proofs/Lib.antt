@@ -11,3 +11,4 @@ pub mod OpenLines
 pub mod FilledPlaces
 pub mod ClaimSums
 pub mod WholeSides
+pub mod InRange

@@ -6,7 +6,11 @@ ghost use Rattle.register.specs.Registers.{meaning};
 ghost use Rattle.register.specs.Rules.{transfer-answer, after-transfer};
 ghost use Rattle.book.specs.Data.{contents};
 ghost use Rattle.delivery.specs.Widths.{most-64};
-ghost use Rattle.delivery.specs.Settling.{line-cash, Pays-for, Settles, Unpaid-stays};
+ghost use Rattle.pairing.specs.Lines.{buyer-agent, seller-agent};
+ghost use Rattle.rules.specs.declared.side.Side.the-variants.{Cash};
+ghost use Rattle.rules.specs.Tally.{house, cash-asset};
+ghost use Rattle.delivery.specs.Sides.{on-side};
+ghost use Rattle.delivery.specs.Settling.{worth as worthOf, line-cash, Pays-for, Settles, Unpaid-stays};
 use book::book::Book;
 use pairing::line::Line;
 use register::balances::Balances;
@@ -37,14 +41,39 @@ fn shift<R: Transfers>(register: &mut R, giver: usize, taker: usize, asset: usiz
     register.transfer(giver, taker, asset, narrowed(amount))
 }
 
+// Moves an amount from the agent of a line's buyer to the house.
+fn collect<C: Transfers>(book: &Book, line: &Line, cash: &mut C, amount: u128) -> Result<(), SideFault>
+    ensures answers_by_the_rules { λ r. ⌜ r ≡ on-side Cash (transfer-answer (meaning C·Balances (now (cash .entry))) (buyer-agent (contents (now (book .entry))) (now (line .entry))) house cash-asset amount) ⌝ }
+    ensures meaning_follows_the_rules { λ _. ⌜ meaning C·Balances (now (cash .exit)) ≡ after-transfer (meaning C·Balances (now (cash .entry))) (buyer-agent (contents (now (book .entry))) (now (line .entry))) house cash-asset amount ⌝ }
+    ensures memory_is_kept { λ _. ⌜ C·Balances .lender (now (cash .exit)) ≡ C·Balances .lender (now (cash .entry)) ⌝ }
+{
+    on(Side::Cash, shift(cash, Party::Buyer.agent(book, line), HOUSE, CASH, amount))
+}
+
+// Moves an amount from the house to the agent of a line's seller.
+fn pass_on<C: Transfers>(book: &Book, line: &Line, cash: &mut C, amount: u128) -> Result<(), SideFault>
+    ensures answers_by_the_rules { λ r. ⌜ r ≡ on-side Cash (transfer-answer (meaning C·Balances (now (cash .entry))) house (seller-agent (contents (now (book .entry))) (now (line .entry))) cash-asset amount) ⌝ }
+    ensures meaning_follows_the_rules { λ _. ⌜ meaning C·Balances (now (cash .exit)) ≡ after-transfer (meaning C·Balances (now (cash .entry))) house (seller-agent (contents (now (book .entry))) (now (line .entry))) cash-asset amount ⌝ }
+    ensures memory_is_kept { λ _. ⌜ C·Balances .lender (now (cash .exit)) ≡ C·Balances .lender (now (cash .entry)) ⌝ }
+{
+    on(Side::Cash, shift(cash, HOUSE, Party::Seller.agent(book, line), CASH, amount))
+}
+
+// The value of a line's contracts in.
+fn worth(book: &Book, line: &Line) -> u128
+    ensures { λ r. ⌜ r ≡ worthOf (contents (now (book .entry))) (now (line .entry)) ⌝ }
+{
+    book.value(usize::from(line.asset), inside(line))
+}
+
 // Moves the value of a line's contracts in from the buyer's agent to the house, and on to the seller's agent.
 fn pay_for<C: Transfers>(book: &Book, line: &Line, cash: &mut C) -> Result<(), SideFault>
     ensures pays { λ r. ⌜ Pays-for (line-cash (contents (now (book .entry))) (now (line .entry))) (meaning C·Balances (now (cash .entry))) (meaning C·Balances (now (cash .exit))) r ⌝ }
     ensures memory_is_kept { λ _. ⌜ C·Balances .lender (now (cash .exit)) ≡ C·Balances .lender (now (cash .entry)) ⌝ }
 {
-    let worth = book.value(usize::from(line.asset), inside(line));
-    on(Side::Cash, shift(cash, Party::Buyer.agent(book, line), HOUSE, CASH, worth))?;
-    on(Side::Cash, shift(cash, HOUSE, Party::Seller.agent(book, line), CASH, worth))?;
+    let amount = worth(book, line);
+    collect(book, line, cash, amount)?;
+    pass_on(book, line, cash, amount)?;
     Ok(())
 }
 

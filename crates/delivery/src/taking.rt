@@ -93,12 +93,19 @@ pub fn take<S: Transfers>(lines: &mut [Line], row: usize, asset: usize, contract
     Ok(())
 }
 
+// Whether a line has contracts left to be taken.
+fn is_open(line: &Line) -> bool
+    ensures { λ r. ⌜ r ≡ ltb 0 (open-on (now (line .entry))) ⌝ }
+{
+    line.taken < line.contracts
+}
+
 // Whether no line has contracts left to be taken.
 pub fn all_taken(lines: &[Line]) -> bool
     ensures none_is_open { λ r. ⌜ r ≡ not (any (λ l. ltb 0 (open-on l)) (now (lines .entry))) ⌝ }
 {
     for line in lines {
-        if line.taken < line.contracts {
+        if is_open(line) {
             return false;
         }
     }
