@@ -1,19 +1,18 @@
 -- Claims as a difference of two sums: what gains, and what loses.
-use mathlib.Core.Path.{_≡_, refl, sym, _∙_, ap}
+use mathlib.Core.Path.{_≡_, sym, _∙_, ap}
 use mathlib.Core.Bool.{Bool, true, false, cond}
 use mathlib.Core.List.{List, [], _∷_}
-use Prim.Native.Nat.{ℕ, zero, suc, _+_, _-_, _*_, _≤_, _<_}
+use Prim.Native.Nat.{ℕ, suc, _+_, _-_, _*_}
 use native.Mathlib.Omega.{arith}
 use native.Mathlib.Nat.{mul-add}
 use lib.Dec.{eqb, ltb}
-use lib.IntN.{ℤ, pos, negsuc, negℤ, subℕ, _+ℤ_, _-ℤ_, _*ℤ_, pos-*ℤ-pos, pos-*ℤ-negsuc}
+use lib.IntN.{ℤ, pos, negsuc, subℕ, _-ℤ_, _*ℤ_, pos-*ℤ-pos, pos-*ℤ-negsuc}
 use borrow.Author.Differences.{ints}
-use Rattle.std.specs.shelf.Lists.{sumBy}
 use Rattle.std.proofs.shelf.Sums.{sumBy-cons}
 use Rattle.std.proofs.shelf.Tests.{cond-both, ltb-true, ltb-false}
-use Rattle.book.specs.Books.{Contents, value, asset-at, invoice, difference}
+use Rattle.book.specs.Books.{Contents, asset-at, invoice}
 use Rattle.pairing.specs.declared.line.Line.{Line}
-use Rattle.pairing.specs.Lines.{total, sumℤ, unsettled, buyer-agent, seller-agent, differences, claim-on}
+use Rattle.pairing.specs.Lines.{sumℤ, unsettled, buyer-agent, seller-agent, differences, claim-on}
 use Rattle.delivery.specs.declared.sums.Measure.the-variants.{UnsettledAtInvoice, UnsettledAtMarket}
 use Rattle.delivery.specs.Parties.{to-buyer, to-seller, agent-on}
 use Rattle.delivery.specs.Sums.{measured, summed}

@@ -1,8 +1,7 @@
 -- The sums of a book's lines are in range: no book has more than a million contracts.
-use mathlib.Core.Path.{_≡_}
 use mathlib.Core.Bool.{Bool, true, false, cond}
 use mathlib.Core.List.{List, [], _∷_}
-use Prim.Native.Nat.{ℕ, _+_, _*_, _≤_}
+use Prim.Native.Nat.{ℕ, _*_, _≤_}
 use native.Mathlib.Omega.{arith}
 use native.Mathlib.Nat.{mul-le-mul, mul-assoc, add-mul}
 use lib.Dec.{eqb}
@@ -12,7 +11,6 @@ use Rattle.book.specs.Limits.{most-bought}
 use Rattle.book.specs.Books.{Contents, Sound, asset-at}
 use Rattle.pairing.specs.declared.line.Line.{Line}
 use Rattle.pairing.specs.Lines.{unsettled}
-use Rattle.rules.specs.Ranges.{most-value}
 use Rattle.rules.proofs.Totals.{all-of}
 use Rattle.rules.proofs.Bounds.{market-bound, bought-bound, sold-bound}
 use Rattle.delivery.specs.declared.party.Party.{Party}

@@ -1,8 +1,8 @@
 -- A line's value through account 0: where neither move would be refused, both are made.
-use mathlib.Core.Path.{_≡_, refl, sym, _∙_, ap, subst}
-use mathlib.Core.Bool.{Bool, true, false, cond}
-use mathlib.Core.List.{List, [], _∷_}
-use Prim.Native.Nat.{ℕ, _<_, _≤_}
+use mathlib.Core.Path.{_≡_, _∙_, ap, subst}
+use mathlib.Core.Bool.{Bool, false, cond}
+use mathlib.Core.List.{[], _∷_}
+use Prim.Native.Nat.{ℕ}
 use native.Mathlib.Omega.{arith}
 use lib.Dec.{eqb}
 use Rattle.std.proofs.shelf.Ways.{tells}
@@ -12,7 +12,7 @@ use Rattle.register.specs.declared.fault.RegisterFault.{RegisterFault}
 use Rattle.register.specs.Rules.{Meaning, answer, transfer-refused, transfer-answer, after-transfer}
 use Rattle.rules.specs.declared.side.Side.the-variants.{Cash}
 use Rattle.rules.specs.Tally.{house, cash-asset}
-use Rattle.rules.specs.Postings.{Posting, moves, pays, None-refused}
+use Rattle.rules.specs.Postings.{moves, pays, None-refused}
 use Rattle.delivery.specs.Sides.{on-side}
 
 -- Nothing of amount 0 is accepted.

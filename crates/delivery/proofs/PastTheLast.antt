@@ -1,9 +1,9 @@
 -- After the last row there is nobody, and after the last asset there is none.
 use mathlib.Core.Path.{_≡_, sym, ap}
-use mathlib.Core.List.{List, _∷_}
-use Prim.Native.Nat.{ℕ, suc, _<_, _≤_}
+use mathlib.Core.List.{_∷_}
+use Prim.Native.Nat.{ℕ, _<_, _≤_}
 use native.Mathlib.Omega.{arith}
-use lib.ListN.{length, getD}
+use lib.ListN.{length}
 use Rattle.std.proofs.shelf.Lists.{getD-past}
 use Rattle.book.specs.declared.records.Asset.{Asset}
 use Rattle.book.specs.declared.records.Holder.{Holder}

@@ -1,6 +1,5 @@
 -- The postings of one line, side by side: its cash, and its units.
-use mathlib.Core.Path.{_≡_, refl}
-use mathlib.Core.List.{List, _∷_}
+use mathlib.Core.Path.{_≡_}
 use Rattle.register.specs.Rules.{Meaning}
 use Rattle.book.specs.Books.{Contents}
 use Rattle.pairing.specs.declared.line.Line.{Line}

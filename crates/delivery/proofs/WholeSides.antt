@@ -1,5 +1,5 @@
 -- The postings of a whole settlement, side by side, and as the rules have them.
-use mathlib.Core.Path.{_≡_, refl, sym, _∙_, ap, subst}
+use mathlib.Core.Path.{_≡_, refl}
 use mathlib.Core.List.{List}
 use Prim.Native.Nat.{ℕ, _*_, _≤_}
 use lib.ListN.{getD}
@@ -12,7 +12,7 @@ use Rattle.pairing.specs.Lines.{inside}
 use Rattle.rules.specs.declared.side.Side.the-variants.{Securities, Cash}
 use Rattle.rules.specs.declared.call.Call.the-variants as call
 use Rattle.rules.specs.Tally.{Opening, Tally, cash-asset}
-use Rattle.rules.specs.Postings.{Posting, pays, for-each, all-posted, None-refused, postings}
+use Rattle.rules.specs.Postings.{pays, for-each, all-posted, None-refused, postings}
 use Rattle.delivery.specs.Parties.{to-buyer}
 use Rattle.delivery.specs.Handing.{units-to, paid-agents}
 use Rattle.delivery.specs.Sums.{Values-fit}

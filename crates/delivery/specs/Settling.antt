@@ -1,8 +1,8 @@
 -- One line settled by itself.
-use Prim.Native.Nat.{ℕ, _*_}
+use Prim.Native.Nat.{ℕ}
 use mathlib.Core.Path.{_≡_}
 use mathlib.Core.List.{List, [], _∷_, _++_}
-use Rattle.std.specs.declared.option.Option.the-variants.{Some, None}
+use Rattle.std.specs.declared.option.Option.the-variants.{Some}
 use Rattle.std.specs.declared.result.Result.{Result}
 use Rattle.std.specs.declared.result.Result.the-variants.{Ok, Err}
 use Rattle.register.specs.declared.fault.RegisterFault.{RegisterFault}
@@ -10,7 +10,6 @@ use Rattle.register.specs.Rules.{Meaning, transfer-refused}
 use Rattle.book.specs.Books.{Contents, value}
 use Rattle.pairing.specs.declared.line.Line.{Line}
 use Rattle.pairing.specs.Lines.{inside, buyer-agent, seller-agent}
-use Rattle.rules.specs.declared.side.Side.{Side}
 use Rattle.rules.specs.declared.side.Side.the-variants.{Securities, Cash}
 use Rattle.rules.specs.Tally.{house, cash-asset, settle}
 use Rattle.rules.specs.Postings.{Posting, moves, pays, refusal, all-posted, None-refused}

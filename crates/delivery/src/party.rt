@@ -1,6 +1,6 @@
 // The two parties of a line: their accounts, their agents, and what becomes of contracts whose units they get.
 ghost use mathlib.Core.Path.{_≡_};
-ghost use Prim.Native.Nat.{ℕ, _+_, _≤_};
+ghost use Prim.Native.Nat.{_+_, _≤_};
 ghost use Rattle.book.specs.Data.{contents};
 ghost use Rattle.book.specs.Books.{holder};
 ghost use Rattle.pairing.specs.Lines.{inside as insideOf};

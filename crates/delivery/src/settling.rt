@@ -1,7 +1,6 @@
 // One line settled by itself: its value through the house to the seller's agent, its units to the buyer.
 ghost use mathlib.Core.Path.{_≡_};
-ghost use mathlib.Core.List.{List};
-ghost use Prim.Native.Nat.{ℕ, _*_, min};
+ghost use Prim.Native.Nat.{min};
 ghost use Rattle.register.specs.Registers.{meaning};
 ghost use Rattle.register.specs.Rules.{transfer-answer, after-transfer};
 ghost use Rattle.book.specs.Data.{contents};

@@ -10,7 +10,7 @@ ghost use Rattle.book.specs.Books.{asset-at};
 ghost use Rattle.book.specs.Limits.{most-agent};
 ghost use Rattle.pairing.specs.Lines.{net as netOf, debit as debitOf, value-bought, value-sold, sumℤ, claim-on};
 ghost use Rattle.delivery.specs.Widths.{most-63, most-64};
-ghost use Rattle.delivery.specs.Parties.{agent-on, to-buyer, to-seller};
+ghost use Rattle.delivery.specs.Parties.{agent-on};
 ghost use Rattle.delivery.specs.Sums.{measured, summed, Values-fit, Claims-fit};
 use book::book::Book;
 use pairing::line::Line;

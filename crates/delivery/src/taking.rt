@@ -3,7 +3,7 @@ ghost use mathlib.Core.Path.{_≡_};
 ghost use mathlib.Core.Bool.{cond, not};
 ghost use lib.Dec.{ltb};
 ghost use Rattle.order.specs.First.{any};
-ghost use Prim.Native.Nat.{ℕ, _-_, _*_, _/_, min};
+ghost use Prim.Native.Nat.{_-_, _*_, _/_, min};
 ghost use Rattle.register.specs.Registers.{meaning};
 ghost use Rattle.register.specs.Rules.{transfer-refused, transfer-answer, after-transfer, unless-refused};
 ghost use Rattle.rules.specs.declared.side.Side.the-variants.{Securities, Cash};

@@ -1,6 +1,5 @@
-use mathlib.Core.Path.{_≡_, refl, _∙_}
+use mathlib.Core.Path.{refl, _∙_}
 use native.Mathlib.Omega.{arith}
-use Prim.Native.Nat.{_<_}
 use Rattle.register.specs.Registers.{meaning}
 use Rattle.rules.specs.declared.side.Side.the-variants.{Cash}
 use Rattle.delivery.specs.Handing.{paid-agents}

@@ -5,7 +5,7 @@ use Rattle.register.specs.Rules.{Meaning}
 use Rattle.book.specs.Data.{contents}
 use Rattle.book.specs.Books.{Contents}
 use Rattle.pairing.specs.declared.line.Line.{Line}
-use Rattle.rules.specs.declared.side.Side.the-variants.{Securities, Cash}
+use Rattle.rules.specs.declared.side.Side.the-variants.{Cash}
 use Rattle.rules.specs.Postings.{Posting, all-posted, None-refused}
 use Rattle.delivery.specs.Handing.{paid-agents}
 use Rattle.delivery.specs.Whole.{net-postings}
