@@ -1,5 +1,5 @@
 -- Lines handed on one after the other: what is left to post does the rest.
-use mathlib.Core.Path.{_≡_, refl, sym, _∙_, ap, subst}
+use mathlib.Core.Path.{_≡_, sym, _∙_, ap, subst}
 use mathlib.Core.List.{List, [], _∷_, _++_, map, append-assoc}
 use Prim.Native.Nat.{ℕ, _+_, _<_, _≤_}
 use native.Mathlib.Omega.{arith}
@@ -16,9 +16,6 @@ pub record Going (side : Side) (f : Line → List Posting) (g : Line → Line) (
   pub none-refused : None-refused side m (for-each f (drop i ls))
   pub posted : all-posted side m (for-each f (drop i ls)) ≡ all-posted side m₀ (for-each f ls₀)
   pub lines : take i ls ++ map g (drop i ls) ≡ map g ls₀
-
-pub going-none : (side : Side) (f : Line → List Posting) (g : Line → Line) (ls : List Line) (m : Meaning) → None-refused side m (for-each f ls) → Going side f g 0 ls m ls m
-going-none side f g ls m n = record { none-refused = n; posted = refl; lines = refl }
 
 pub going-here : (side : Side) (f : Line → List Posting) (g : Line → Line) (i : ℕ) (ls₀ : List Line) (m₀ : Meaning) (ls : List Line) (m : Meaning) (d : Line) → i < length ls
   → Going side f g i ls₀ m₀ ls m → None-refused side m (f (getD ls i d))
