@@ -1,0 +1,5 @@
+pub mod FirstFailed
+pub mod Searches
+pub mod Roomy
+pub mod Blank
+pub mod Credited
