@@ -3,3 +3,4 @@ pub mod Searches
 pub mod Roomy
 pub mod Blank
 pub mod Credited
+pub mod Noticed

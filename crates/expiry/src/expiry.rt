@@ -6,6 +6,7 @@ use rules::session::Session;
 pub mod room;
 pub mod opening;
 pub mod credits;
+pub mod notices;
 
 // A book has at most 256 holders; each has a record, so that no call asks for memory.
 pub const MOST_HOLDERS: usize = 256;
