@@ -4,7 +4,7 @@ use mathlib.Core.Path.{_≡_, refl, sym, ap, _∙_}
 use mathlib.Core.Bool.{Bool, true, false, _&&_}
 use mathlib.Core.List.{List, [], _∷_}
 use lib.Dec.{eqb, ltb}
-use lib.IntN.{ℤ, pos, subℕ}
+use lib.IntN.{ℤ, pos, negsuc, natAbs}
 use lib.ListN.{getD, length}
 use borrow.Author.Tests.{eqb-true}
 use mathlib.Core.Logic.{inl, inr}
@@ -21,7 +21,7 @@ use Rattle.rules.specs.Verdict.{opening-refused}
 use Rattle.rules.specs.Histories.{Stands, Same, register}
 use Rattle.rules.proofs.Begins.{told-at-first}
 use Rattle.expiry.specs.declared.expiry.Expiry.{Expiry}
-use Rattle.expiry.specs.Seeing.{record-of, balance-of, seen, zeros, blank, New}
+use Rattle.expiry.specs.Seeing.{record-of, seen, zeros, even, blank, New}
 use Rattle.expiry.proofs.FirstFailed.{fails}
 use Rattle.expiry.proofs.Roomy.{opening-rest}
 
@@ -44,8 +44,14 @@ none-notified (x ∷ xs) h (suc zero) = eqb-true (x .notified) 0 (and-parts (eqb
 none-notified (x ∷ xs) h (suc (suc row)) =
   none-notified xs (and-parts (eqb (x .notified) 0) (blank xs) (and-parts (zeros (x .lots)) (eqb (x .notified) 0 && blank xs) h .1) .1) (suc row)
 
-even : (xs ys : List ℕ) → zeros xs ≡ true → zeros ys ≡ true → (agent : ℕ) → balance-of xs ys agent ≡ pos 0
-even xs ys h k agent = ap (λ z. subℕ z (getD ys agent 0)) (zeros-at xs h agent) ∙ ap (λ z. subℕ 0 z) (zeros-at ys k agent)
+nought : (z : ℤ) → natAbs z ≡ 0 → z ≡ pos 0
+nought (pos n) h = ap pos h
+nought (negsuc n) h = absurd (omega arith)
+
+even-at : (ns : List ℤ) → even ns ≡ true → (i : ℕ) → getD ns i (pos 0) ≡ pos 0
+even-at [] h i = refl
+even-at (n ∷ ns) h zero = nought n (eqb-true (natAbs n) 0 (and-parts (eqb (natAbs n) 0) (even ns) h .0))
+even-at (n ∷ ns) h (suc i) = even-at ns (and-parts (eqb (natAbs n) 0) (even ns) h .1) i
 
 pub some-holders : (o : Opening) → opening-refused o ≡ None → 0 < length (o .book .holders)
 some-holders o h = elim (cases-bool (ltb 0 (length (o .book .holders))))
@@ -56,7 +62,7 @@ pub begun : (o : Opening) (e : Expiry) → Sound (o .book) → opening-refused o
 begun o e sound passed n = record
   { opens = record { book = sound; not-refused = passed }; lived = tt; book = n .book; session = n .session
   ; lots = nothing-at (e .lots) (n .lots); notified = none-notified (e .lots) (n .lots); count = n .count; table = refl
-  ; draws = zeros-at (e .draws) (n .draws); nets = even (e .sold) (e .bought) (n .sold) (n .bought); claims = even (e .gained) (e .lost) (n .gained) (n .lost)
+  ; draws = zeros-at (e .draws) (n .draws); nets = even-at (e .nets) (n .nets); claims = even-at (e .claims) (n .claims)
   ; registers = both }
   where
     both : (side : Side) → Same (register (seen e (o .table) (o .securities) (o .cash)) side) (told o empty side)

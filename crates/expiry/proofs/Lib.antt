@@ -4,3 +4,4 @@ pub mod Roomy
 pub mod Blank
 pub mod Credited
 pub mod Noticed
+pub mod Absent

@@ -200,7 +200,7 @@ row-positive b (suc row) h = omega arith
 
 abbrev pub with-records : Expiry → List SellerLots → Expiry
 with-records e records = record
-  { book = e .book; session = e .session; lots = records; count = e .count; draws = e .draws; sold = e .sold; bought = e .bought; gained = e .gained; lost = e .lost }
+  { book = e .book; session = e .session; lots = records; count = e .count; draws = e .draws; nets = e .nets; claims = e .claims }
 
 pub notice-accepted : (o : Opening) (h : List Entry) (e : Expiry) (ls : List Line) (s c : Meaning) (sp : Speaker) (m n a k place : ℕ)
   → place-or (seen-stops e sp m n a k) (row-named (contents (e .book)) m n) ≡ Ok place → place < length (e .lots) → Stands o h (seen e ls s c)

@@ -4,7 +4,7 @@ use mathlib.Core.Path.{_≡_}
 use mathlib.Core.Bool.{Bool, true, _&&_}
 use mathlib.Core.List.{List, [], _∷_}
 use lib.Dec.{eqb}
-use lib.IntN.{ℤ, subℕ}
+use lib.IntN.{ℤ, pos, natAbs}
 use lib.ListN.{getD}
 use Rattle.book.specs.Books.{Contents}
 use Rattle.book.specs.Data.{contents}
@@ -14,16 +14,12 @@ use Rattle.pairs.specs.declared.lots.SellerLots.{SellerLots}
 use Rattle.pairs.specs.Records.{no-lots}
 use Rattle.rules.specs.declared.session.Session.the-variants.{MembersNotices}
 use Rattle.rules.specs.Tally.{Opening}
-use Rattle.rules.specs.Histories.{Seen}
+use Rattle.rules.specs.Histories.{Entry, Seen, Stands}
 use Rattle.expiry.specs.declared.expiry.Expiry.{Expiry}
 
 -- The record of a row. Rows count from 1; row 0 has nothing.
 abbrev pub record-of : List SellerLots → ℕ → SellerLots
 record-of records row = getD (no-lots ∷ records) row no-lots
-
--- What stands for an agent on the one side, less what stands on the other.
-abbrev pub balance-of : List ℕ → List ℕ → ℕ → ℤ
-balance-of plus minus agent = subℕ (getD plus agent 0) (getD minus agent 0)
 
 abbrev pub seen : Expiry → List Line → Meaning → Meaning → Seen
 seen e lines securities cash = record
@@ -34,8 +30,8 @@ seen e lines securities cash = record
   ; table = lines
   ; count = e .count
   ; draw = λ agent. getD (e .draws) agent 0
-  ; net = balance-of (e .sold) (e .bought)
-  ; claim = balance-of (e .gained) (e .lost)
+  ; net = λ agent. getD (e .nets) agent (pos 0)
+  ; claim = λ agent. getD (e .claims) agent (pos 0)
   ; securities = securities
   ; cash = cash }
 
@@ -49,6 +45,10 @@ abbrev pub zeros : List ℕ → Bool
 zeros [] = true
 zeros (n ∷ ns) = eqb n 0 && zeros ns
 
+abbrev pub even : List ℤ → Bool
+even [] = true
+even (n ∷ ns) = eqb (natAbs n) 0 && even ns
+
 abbrev pub blank : List SellerLots → Bool
 blank [] = true
 blank (x ∷ xs) = zeros (x .lots) && (eqb (x .notified) 0 && blank xs)
@@ -59,7 +59,11 @@ pub record New (b : Contents) (e : Expiry) : Type 0 where
   pub lots : blank (e .lots) ≡ true
   pub count : e .count ≡ 0
   pub draws : zeros (e .draws) ≡ true
-  pub sold : zeros (e .sold) ≡ true
-  pub bought : zeros (e .bought) ≡ true
-  pub gained : zeros (e .gained) ≡ true
-  pub lost : zeros (e .lost) ≡ true
+  pub nets : even (e .nets) ≡ true
+  pub claims : even (e .claims) ≡ true
+
+-- ---- questions
+
+-- What is so of the expiry, wherever it stands, with any lines and registers.
+abbrev pub Tells : Expiry → (Opening → List Entry → Type 0) → Type 0
+Tells e told = (o : Opening) (h : List Entry) (lines : List Line) (securities cash : Meaning) → Stands o h (seen e lines securities cash) → told o h

@@ -7,6 +7,7 @@ pub mod room;
 pub mod opening;
 pub mod credits;
 pub mod notices;
+pub mod questions;
 
 // A book has at most 256 holders; each has a record, so that no call asks for memory.
 pub const MOST_HOLDERS: usize = 256;
@@ -14,7 +15,7 @@ pub const MOST_HOLDERS: usize = 256;
 // Places for amounts by agent: agents are numbered from 1, and no book has one above 64.
 pub const AGENT_PLACES: usize = 65;
 
-// The value that the clients of an agent sell and buy stands unsigned, as do the differences that they gain and lose.
+// Nets and claims are those of each agent, by its number.
 #[derive(Drop)]
 pub struct Expiry {
     book: Book,
@@ -22,8 +23,6 @@ pub struct Expiry {
     lots: [SellerLots; MOST_HOLDERS],
     count: usize,
     draws: [u64; AGENT_PLACES],
-    sold: [u64; AGENT_PLACES],
-    bought: [u64; AGENT_PLACES],
-    gained: [u64; AGENT_PLACES],
-    lost: [u64; AGENT_PLACES],
+    nets: [i64; AGENT_PLACES],
+    claims: [i64; AGENT_PLACES],
 }

@@ -66,10 +66,8 @@ impl Expiry {
             lots: [SellerLots::NONE; MOST_HOLDERS],
             count: 0,
             draws: [0; AGENT_PLACES],
-            sold: [0; AGENT_PLACES],
-            bought: [0; AGENT_PLACES],
-            gained: [0; AGENT_PLACES],
-            lost: [0; AGENT_PLACES],
+            nets: [0; AGENT_PLACES],
+            claims: [0; AGENT_PLACES],
         }
     }
 
