@@ -1,10 +1,9 @@
 -- A credit goes on by the rules.
 use Prim.Native.Nat.{ℕ, _+_}
-use mathlib.Core.Path.{_≡_, refl, sym, ap, subst, _∙_}
+use mathlib.Core.Path.{_≡_, sym, ap, subst, _∙_}
 use mathlib.Core.Bool.{Bool, true, false, cond, _&&_}
-use mathlib.Core.List.{List, [], _∷_}
+use mathlib.Core.List.{List, _∷_}
 use lib.Dec.{eqb, ltb}
-use native.Mathlib.Omega.{arith}
 use Rattle.std.specs.declared.option.Option.{Option}
 use Rattle.std.specs.declared.option.Option.the-variants.{Some, None}
 use Rattle.std.specs.declared.result.Result.{Result}
@@ -16,15 +15,14 @@ use Rattle.pairing.specs.declared.line.Line.{Line}
 use Rattle.rules.specs.declared.side.Side.{Side}
 use Rattle.rules.specs.declared.side.Side.the-variants.{Securities, Cash}
 use Rattle.rules.specs.declared.call.Call.{Call}
-use Rattle.rules.specs.declared.answer.Answer.{Answer}
 use Rattle.rules.specs.declared.answer.Answer.the-variants.{Done}
 use Rattle.rules.specs.declared.fault.Cause.{Cause}
 use Rattle.rules.specs.declared.fault.Cause.the-variants.{HouseCredit}
 use Rattle.rules.specs.declared.fault.Fault.{Fault}
-use Rattle.rules.specs.Tally.{Opening, Tally, told, accepted, house, same-side}
+use Rattle.rules.specs.Tally.{Opening, told, accepted, house, same-side}
 use Rattle.rules.specs.Verdict.{verdict, checks, by-register, first-failed}
 use Rattle.rules.specs.Histories.{Entry, tally-of, Same, Seen, register, Stands}
-use Rattle.rules.specs.Postings.{Followed, all-posted, postings}
+use Rattle.rules.specs.Postings.{Followed, postings}
 use Rattle.rules.proofs.PostingsFollow.{postings-follow}
 use Rattle.expiry.specs.declared.expiry.Expiry.{Expiry}
 use Rattle.expiry.specs.Seeing.{seen}

@@ -1,6 +1,6 @@
 -- A notice goes on by the rules.
-use Prim.Native.Nat.{ℕ, zero, suc, _+_, _-_, _≤_, _<_, min}
-use mathlib.Core.Path.{_≡_, refl, sym, ap, subst, _∙_}
+use Prim.Native.Nat.{ℕ, zero, suc, _+_, _-_, _≤_, _<_}
+use mathlib.Core.Path.{_≡_, refl, sym, ap, _∙_}
 use mathlib.Core.Bool.{Bool, true, false, cond, _&&_, _||_}
 use mathlib.Core.Logic.{inl, inr}
 use mathlib.Core.List.{List, [], _∷_}
@@ -16,7 +16,6 @@ use Rattle.std.proofs.shelf.Elements.{all-getD}
 use Rattle.std.proofs.shelf.Tests.{false≢true, cases-eq, cases-lt, cond-true, cond-false, eq-eqb, ne-eqb, ltb-true, leb-true, and-parts}
 use Rattle.std.specs.declared.option.Option.{Option}
 use Rattle.std.specs.declared.option.Option.the-variants.{Some, None}
-use Rattle.std.specs.declared.result.Result.{Result}
 use Rattle.std.specs.declared.result.Result.the-variants.{Ok, Err}
 use Rattle.book.specs.Limits.{most-holders}
 use Rattle.book.specs.declared.book.Book.{Book}
@@ -34,11 +33,9 @@ use Rattle.rules.specs.declared.session.Session.{Session}
 use Rattle.rules.specs.declared.session.Session.the-variants.{MembersNotices, ClearingNotices}
 use Rattle.rules.specs.declared.speaker.Speaker.{Speaker}
 use Rattle.rules.specs.declared.speaker.Speaker.the-variants.{Member, Clearing}
-use Rattle.rules.specs.declared.call.Call.{Call}
 use Rattle.rules.specs.declared.answer.Answer.the-variants.{Done}
 use Rattle.rules.specs.declared.fault.Cause.{Cause}
 use Rattle.rules.specs.declared.fault.Cause.the-variants.{WrongSession, NotItsSeller, NoSuchSeller, NoSuchAsset, BadContracts, NothingDue}
-use Rattle.rules.specs.declared.fault.Fault.{Fault}
 use Rattle.rules.specs.Tally.{Opening, Tally}
 use Rattle.rules.specs.Verdict.{Check, verdict, checks, in-its-session, further, speaks-for, first-failed}
 use Rattle.rules.specs.Histories.{Entry, tally-of, Lived, Stands}

@@ -1,6 +1,5 @@
 // Credits, which every session takes.
 ghost use mathlib.Core.Path.{_≡_};
-ghost use Prim.Native.Nat.{ℕ};
 ghost use Rattle.book.specs.Data.{contents};
 ghost use Rattle.register.specs.Registers.{meaning};
 ghost use Rattle.register.specs.Rules.{answer, unless-refused, with-credit};

@@ -1,6 +1,5 @@
 // Opening an expiry.
 ghost use mathlib.Core.Path.{_≡_};
-ghost use Prim.Native.Nat.{ℕ};
 ghost use Rattle.book.specs.Data.{contents};
 ghost use Rattle.register.specs.Registers.{meaning};
 ghost use Rattle.rules.specs.Verdict.{house-empty, opening-refused};

@@ -1,4 +1,4 @@
-use mathlib.Core.Path.{_≡_, refl, sym, subst, _∙_}
+use mathlib.Core.Path.{refl, sym, subst, _∙_}
 use mathlib.Core.List.{_∷_}
 use Rattle.std.specs.declared.result.Result.{Result}
 use Rattle.register.specs.Registers.{meaning}

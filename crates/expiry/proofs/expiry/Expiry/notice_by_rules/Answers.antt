@@ -1,18 +1,14 @@
 use borrow.Author.Needs.{needs}
-use mathlib.Core.Path.{_≡_, refl, sym, subst, _∙_}
+use mathlib.Core.Path.{refl, sym, subst, _∙_}
 use mathlib.Core.List.{List, _∷_}
 use native.Mathlib.Numerals.{add-one}
-use Rattle.std.specs.declared.result.Result.{Result}
 use Rattle.std.specs.declared.result.Result.the-variants.{Ok, Err}
 use Rattle.register.specs.Registers.{meaning}
 use Rattle.register.specs.Rules.{Meaning}
 use Rattle.pairs.specs.declared.lots.SellerLots.{SellerLots}
-use Rattle.rules.specs.declared.answer.Answer.{Answer}
 use Rattle.rules.specs.declared.answer.Answer.the-variants.{Done}
 use Rattle.rules.specs.declared.call.Call.{Call}
-use Rattle.rules.specs.declared.fault.Fault.{Fault}
 use Rattle.rules.specs.Histories.{Seen, Stands}
-use Rattle.expiry.specs.declared.expiry.Expiry.{Expiry}
 use Rattle.expiry.specs.Seeing.{seen}
 use Rattle.expiry.specs.Noticing.{notice-call}
 use Rattle.expiry.proofs.Roomy.{small-goes, small-first, enough-first}

@@ -1,21 +1,17 @@
-use Prim.Native.Nat.{ℕ, _+_, _-_}
+use Prim.Native.Nat.{ℕ, _-_}
 use mathlib.Core.Path.{_≡_, sym, ap, subst, _∙_}
-use mathlib.Core.Bool.{Bool, true, _||_}
 use native.Mathlib.Omega.{arith}
 use lib.ListN.{length}
 use Rattle.std.specs.declared.option.Option.{Option}
-use Rattle.std.specs.declared.option.Option.the-variants.{Some, None}
+use Rattle.std.specs.declared.option.Option.the-variants.{None}
 use Rattle.std.specs.declared.result.Result.{Result}
 use Rattle.std.specs.declared.result.Result.the-variants.{Ok}
-use Rattle.book.specs.Books.{Contents, holder, row-named, sells}
+use Rattle.book.specs.Books.{Contents, holder, row-named}
 use Rattle.book.specs.Data.{contents}
-use Rattle.rules.specs.declared.session.Session.the-variants.{MembersNotices, ClearingNotices}
 use Rattle.rules.specs.declared.fault.Cause.{Cause}
-use Rattle.rules.specs.declared.fault.Cause.the-variants.{WrongSession, NoSuchSeller}
 use Rattle.rules.specs.Verdict.{first-failed}
 use Rattle.expiry.specs.Seeing.{record-of}
-use Rattle.expiry.specs.Noticing.{is-session, fault-checks, notice-stops, place-or}
-use Rattle.expiry.proofs.FirstFailed.{passes}
+use Rattle.expiry.specs.Noticing.{fault-checks, place-or}
 use Rattle.expiry.proofs.Noticed.{by-row, fits-in, stops-at-seller}
 use Rattle.expiry.proofs.expiry.Expiry.notice_place.Needs as need
 
