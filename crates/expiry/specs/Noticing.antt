@@ -73,5 +73,6 @@ Fits-in records asset contracts (Err cause) = Unit {0}
 abbrev pub lot-more : SellerLots → ℕ → ℕ → ℕ → ℕ
 lot-more x a n i = cond (eqb i a) (min (getD (x .lots) i 0 + n) 4294967295) (getD (x .lots) i 0)
 
+-- The record with so many contracts more notified, in the lot for an asset.
 abbrev pub with-lot : SellerLots → ℕ → ℕ → SellerLots
 with-lot x a n = record { lots = lot-more x a n 0 ∷ lot-more x a n 1 ∷ lot-more x a n 2 ∷ lot-more x a n 3 ∷ []; notified = x .notified + n }

@@ -21,6 +21,7 @@ use Rattle.expiry.specs.declared.expiry.Expiry.{Expiry}
 abbrev pub record-of : List SellerLots → ℕ → SellerLots
 record-of records row = getD (no-lots ∷ records) row no-lots
 
+-- The lots and the contracts notified of a row are those of its record; an amount of an agent stands at its number.
 abbrev pub seen : Expiry → List Line → Meaning → Meaning → Seen
 seen e lines securities cash = record
   { book = contents (e .book)
@@ -41,6 +42,7 @@ opening b lines securities cash = record { book = b; table = lines; securities =
 
 -- ---- an expiry with nothing in it yet
 
+-- All are 0: counts, and amounts with a sign.
 abbrev pub zeros : List ℕ → Bool
 zeros [] = true
 zeros (n ∷ ns) = eqb n 0 && zeros ns
@@ -49,10 +51,12 @@ abbrev pub even : List ℤ → Bool
 even [] = true
 even (n ∷ ns) = eqb (natAbs n) 0 && even ns
 
+-- No record has a contract in it.
 abbrev pub blank : List SellerLots → Bool
 blank [] = true
 blank (x ∷ xs) = zeros (x .lots) && (eqb (x .notified) 0 && blank xs)
 
+-- An expiry of the book in session 1, with nothing notified, paired, drawn or closed.
 pub record New (b : Contents) (e : Expiry) : Type 0 where
   pub book : contents (e .book) ≡ b
   pub session : e .session ≡ MembersNotices
