@@ -17,7 +17,7 @@ pub enum Party {
 }
 
 // The contracts of a line that are in: taken, and neither settled nor returned.
-pub fn inside(line: &Line) -> u32
+pub(crate) fn inside(line: &Line) -> u32
     ensures taken_less_settled_and_returned { λ r. ⌜ r ≡ insideOf (now (line .entry)) ⌝ }
     ensures room_to_count_them { λ r. ⌜ (now (line .entry) .settled + r ≤ most-32) × (now (line .entry) .returned + r ≤ most-32) ⌝ }
 {
@@ -38,7 +38,7 @@ fn agent_of(book: &Book, row: usize) -> usize
 
 impl Party {
     // The account of a holder is its row.
-    pub fn account(&self, line: &Line) -> usize
+    pub(crate) fn account(&self, line: &Line) -> usize
         ensures row_of_the_party { λ r. ⌜ r ≡ row-on (now (self .entry)) (now (line .entry)) ⌝ }
     {
         match self {
@@ -63,7 +63,7 @@ impl Party {
     }
 
     // The payment agent of that holder; 0 where the book has nobody in its row.
-    pub fn agent(&self, book: &Book, line: &Line) -> usize
+    pub(crate) fn agent(&self, book: &Book, line: &Line) -> usize
         ensures agent_of_the_party { λ r. ⌜ r ≡ agent-on (now (self .entry)) (contents (now (book .entry))) (now (line .entry)) ⌝ }
     {
         agent_of(book, self.account(line))

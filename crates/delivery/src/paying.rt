@@ -26,7 +26,7 @@ use crate::taking::HOUSE;
 pub const AGENT_PLACES: usize = 65;
 
 // Pays an amount out of the house's account; nothing where it is 0.
-pub fn pay<R: Transfers>(register: &mut R, taker: usize, asset: usize, amount: u64) -> Result<(), RegisterFault>
+pub(crate) fn pay<R: Transfers>(register: &mut R, taker: usize, asset: usize, amount: u64) -> Result<(), RegisterFault>
     ensures answers_by_the_rules { λ r. ⌜ r ≡ cond (eqb amount 0) (Ok tt) (transfer-answer (meaning R·Balances (now (register .entry))) house taker asset amount) ⌝ }
     ensures meaning_follows_the_rules { λ _. ⌜ meaning R·Balances (now (register .exit)) ≡ cond (eqb amount 0) (meaning R·Balances (now (register .entry))) (after-transfer (meaning R·Balances (now (register .entry))) house taker asset amount) ⌝ }
     ensures memory_is_kept { λ _. ⌜ R·Balances .lender (now (register .exit)) ≡ R·Balances .lender (now (register .entry)) ⌝ }
@@ -60,7 +60,7 @@ fn hand_out<S: Transfers>(lines: &mut [Line], to: Party, multiplier: u32, securi
 }
 
 // Delivers the units of all contracts in to their buyers, and counts them as settled.
-pub fn settle_units<S: Transfers>(lines: &mut [Line], multiplier: u32, securities: &mut S) -> Result<(), SideFault>
+pub(crate) fn settle_units<S: Transfers>(lines: &mut [Line], multiplier: u32, securities: &mut S) -> Result<(), SideFault>
     ensures settles_where_no_move_is_refused { λ r. ⌜ Hands-out to-buyer multiplier (now (lines .entry)) (now (lines .exit)) (meaning S·Balances (now (securities .entry))) (meaning S·Balances (now (securities .exit))) r ⌝ }
     ensures memory_is_kept { λ _. ⌜ S·Balances .lender (now (securities .exit)) ≡ S·Balances .lender (now (securities .entry)) ⌝ }
 {

@@ -87,7 +87,7 @@ pub fn debit(book: &Book, lines: &[Line], agent: usize) -> u64
 }
 
 // What an agent's net is above 0.
-pub fn credit(book: &Book, lines: &[Line], agent: usize) -> u64
+pub(crate) fn credit(book: &Book, lines: &[Line], agent: usize) -> u64
     ensures net_above_0 { λ r. ⌜ (Values-fit (contents (now (book .entry))) (now (lines .entry)) agent → r ≡ value-sold (contents (now (book .entry))) (λ l. l .contracts) (now (lines .entry)) agent - value-bought (contents (now (book .entry))) (λ l. l .contracts) (now (lines .entry)) agent) ⌝ }
 {
     sold(book, lines, agent).saturating_sub(bought(book, lines, agent))
@@ -108,14 +108,14 @@ fn difference(more: u64, less: u64) -> i64
 }
 
 // An agent's net: the value of the lines that its clients sell less those that they buy.
-pub fn net(book: &Book, lines: &[Line], agent: usize) -> i64
+pub(crate) fn net(book: &Book, lines: &[Line], agent: usize) -> i64
     ensures sold_less_bought { λ r. ⌜ (Values-fit (contents (now (book .entry))) (now (lines .entry)) agent → r ≡ netOf (contents (now (book .entry))) (now (lines .entry)) agent) ⌝ }
 {
     difference(sold(book, lines, agent), bought(book, lines, agent))
 }
 
 // Each agent's net above 0, by its number; 0 for the others.
-pub fn credits(book: &Book, lines: &[Line]) -> [u64; AGENT_PLACES]
+pub(crate) fn credits(book: &Book, lines: &[Line]) -> [u64; AGENT_PLACES]
     ensures each_net_above_0 { λ r. ⌜ ((k : ℕ) → k ≤ most-agent → Values-fit (contents (now (book .entry))) (now (lines .entry)) k → getD r k 0 ≡ value-sold (contents (now (book .entry))) (λ l. l .contracts) (now (lines .entry)) k - value-bought (contents (now (book .entry))) (λ l. l .contracts) (now (lines .entry)) k) ⌝ }
 {
     let mut amounts: [u64; AGENT_PLACES] = [0; AGENT_PLACES];
@@ -138,7 +138,7 @@ pub fn nets(book: &Book, lines: &[Line]) -> [i64; AGENT_PLACES]
 
 // What an agent is owed, or owes below 0, where a close closes all unsettled contracts by differences: market less invoice
 // price on what its clients buy, and the other way round on what they sell.
-pub fn claim(book: &Book, lines: &[Line], agent: usize) -> i64
+pub(crate) fn claim(book: &Book, lines: &[Line], agent: usize) -> i64
     ensures differences_bought_less_sold { λ r. ⌜ (Claims-fit (contents (now (book .entry))) (now (lines .entry)) agent → r ≡ sumℤ (claim-on (contents (now (book .entry))) agent) (now (lines .entry))) ⌝ }
 {
     let bought_at_market = sum_of(book, lines, Party::Buyer, agent, Measure::UnsettledAtMarket);

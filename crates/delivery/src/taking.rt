@@ -63,7 +63,7 @@ fn load(line: &mut Line, row: usize, asset: usize, left: u32) -> u32
 }
 
 // Counts contracts as taken on the seller's lines of an asset, in line order.
-pub fn spread(lines: &mut [Line], row: usize, asset: usize, contracts: u32)
+pub(crate) fn spread(lines: &mut [Line], row: usize, asset: usize, contracts: u32)
     ensures taken_in_line_order { λ _. ⌜ now (lines .exit) ≡ take-on row asset contracts (now (lines .entry)) ⌝ }
 {
     let mut left = contracts;
