@@ -38,7 +38,7 @@ pub fn step(rest: &[u8], separator: u8) -> (&[u8], &[u8])
 }
 
 // How many separators there are: one fewer than there are parts.
-pub fn separators(s: &[u8], separator: u8) -> usize
+pub(crate) fn separators(s: &[u8], separator: u8) -> usize
     ensures one_fewer_than_parts { λ r. ⌜ r + 1 ≡ length (parts separator (now (s .entry))) ⌝ }
 {
     count(s, separator)

@@ -32,7 +32,7 @@ fn is_near(n: i64) -> bool
 
 impl Bound {
     // Whether a field may have this number.
-    pub fn allows(&self, n: i64) -> bool
+    pub(crate) fn allows(&self, n: i64) -> bool
         ensures within_the_bound { λ r. ⌜ r ≡ inside (now (self .entry)) n ⌝ }
     {
         is_near(n) && self.low <= n && n <= self.high && (self.zero || n != 0)

@@ -112,7 +112,8 @@ impl Book {
         self.row_with(member, number)
     }
 
-    fn price_of(&self, asset: usize) -> u64
+    // The invoice price of an asset in centavos a unit; 0 where the book has no such asset.
+    fn invoice_price(&self, asset: usize) -> u64
         ensures value { λ r. ⌜ r ≡ invoice (contents (now (self .entry))) asset ⌝ }
     {
         let assets = self.assets.as_slice();
@@ -123,17 +124,10 @@ impl Book {
         }
     }
 
-    // The invoice price of an asset in centavos a unit; 0 where the book has no such asset.
-    pub fn invoice_price(&self, asset: usize) -> u64
-        ensures value { λ r. ⌜ r ≡ invoice (contents (now (self .entry))) asset ⌝ }
-    {
-        self.price_of(asset)
-    }
-
     // The value of so many contracts of an asset, in centavos.
     pub fn value(&self, asset: usize, contracts: u32) -> u128
         ensures value { λ r. ⌜ r ≡ valueOf (contents (now (self .entry))) asset contracts ⌝ }
     {
-        u128::from(contracts) * u128::from(self.terms.multiplier) * u128::from(self.price_of(asset))
+        u128::from(contracts) * u128::from(self.terms.multiplier) * u128::from(self.invoice_price(asset))
     }
 }

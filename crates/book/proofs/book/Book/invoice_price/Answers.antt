@@ -5,7 +5,7 @@ use lib.ListN.{length, getD}
 use Rattle.std.proofs.shelf.Lists.{getD-past}
 use Rattle.std.specs.Of.Vec.{vec-items}
 use Rattle.book.specs.Books.{invoice-of, no-asset}
-use Rattle.book.proofs.book.Book.price_of.Needs as need
+use Rattle.book.proofs.book.Book.invoice_price.Needs as need
 
 -- no asset has no invoice price
 nothing : (price : ℕ) → 0 ≡ invoice-of price no-asset
