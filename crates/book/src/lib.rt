@@ -1,4 +1,6 @@
 // The book of one expiry: its records, the book itself with what every book keeps, its file, its look-up and its prices.
+#![tactic(auto)]
+
 mod awaits;
 pub mod book;
 mod draft;

@@ -1,4 +1,6 @@
 // Plays a table of book files, one in each line, and prints what `check_book` says of each.
+#![tactic(auto)]
+
 use anyhow::anyhow;
 use book::book::Book;
 use book::fault::ReadFault;

@@ -1,5 +1,7 @@
 // For the programs that play tables of cases: reading the table, and bytes that are written in a line of text.
 // Only safety is proved here; a wrong decoding would show as a wrong answer to a case.
+#![tactic(auto)]
+
 ghost use Rattle.std.specs.Prelude.{◌≡◌, ◌-◌, ◌<◌, ◌≤◌, length, IfOk};
 
 use std::alloc::{AllocError, Global};

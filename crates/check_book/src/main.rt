@@ -1,4 +1,6 @@
 // Reads a book file from standard input and prints whether it is accepted, or why not and where.
+#![tactic(auto)]
+
 use anyhow::anyhow;
 use book::book::Book;
 use book::fault::ReadFault;

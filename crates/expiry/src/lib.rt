@@ -1,2 +1,4 @@
 // The engine: one expiry over its lines and any two registers.
+#![tactic(auto)]
+
 pub mod expiry;

@@ -1,4 +1,6 @@
 // Reads a book file from standard input, pairs the book without notices and prints its lines, or why it is refused.
+#![tactic(auto)]
+
 use anyhow::anyhow;
 use book::book::Book;
 use book::fault::ReadFault;

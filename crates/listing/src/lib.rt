@@ -1,4 +1,6 @@
 // Lines as they are listed: with the holders' names and the value of the contracts.
+#![tactic(auto)]
+
 ghost use Rattle.std.specs.Prelude.{◌≡◌};
 ghost use Rattle.book.specs.Books.{holder};
 ghost use Rattle.book.specs.Data.{contents};

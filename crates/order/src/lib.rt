@@ -1,4 +1,6 @@
 // First by an order: one search for every kind of record that has a total order.
+#![tactic(auto)]
+
 ghost use Rattle.std.specs.Prelude.{◌≡◌, ℕ, Bool, true, false, Option};
 ghost use Rattle.order.specs.First.{FirstOpen, first, place_of};
 

@@ -1,4 +1,6 @@
 // Pairing: bought contracts against sold ones, and the lines that are delivered.
+#![tactic(auto)]
+
 ghost use Rattle.pairing.specs.Cases.{WorkedCases, PremisesHold};
 
 pub mod deliverable;

@@ -1,4 +1,6 @@
 // Plays a table of books with notices, one in each line, and prints the lines of each.
+#![tactic(auto)]
+
 ghost use Rattle.std.specs.Prelude.{◌<◌, length};
 
 use anyhow::anyhow;

@@ -1,4 +1,6 @@
 // Pairs a book by the rule, and writes the lines.
+#![tactic(auto)]
+
 pub mod book;
 mod deliverables;
 pub mod fault;

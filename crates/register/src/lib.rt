@@ -1,4 +1,6 @@
 // Registers of balances by their meaning: the two halves of the interface, and what is done with registers of any make.
+#![tactic(auto)]
+
 pub mod balances;
 pub mod carrying;
 pub mod checks;

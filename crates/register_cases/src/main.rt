@@ -1,4 +1,6 @@
 // Answers a table of calls, read from standard input, by a table register and by a day book, and prints each answer.
+#![tactic(auto)]
+
 mod answer;
 mod call;
 mod reading;

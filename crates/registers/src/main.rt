@@ -1,6 +1,8 @@
 // Runs one list of credits and moves, with every refusal in it, through a table register and a day book over the
 // same balances, and prints each answer, the balances at the end and the memory that is left; then deliveries
 // against payment between each two makes.
+#![tactic(auto)]
+
 mod answers;
 mod lending;
 mod lists;

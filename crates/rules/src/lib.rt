@@ -1,4 +1,6 @@
 // The words of an expiry: its sessions, its calls and their answers.
+#![tactic(auto)]
+
 ghost use Rattle.rules.specs.Law.{LawHolds};
 ghost use Rattle.rules.specs.Postings.{OnlyShort, PostingsFollow};
 ghost use Rattle.rules.specs.Standing.{RoomStays, RefusedStands, RegistersFollow, CoveredOrShort};

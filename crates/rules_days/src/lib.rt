@@ -1,4 +1,6 @@
 // Whole days of calls that a separate program played, and the rules' own play of them.
+#![tactic(auto)]
+
 ghost use Rattle.rules_days.specs.Days.{DaysAgree};
 
 // The rules open, answer and tell as the separate program did, at every step of every day of the table.

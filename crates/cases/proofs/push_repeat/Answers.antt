@@ -9,11 +9,11 @@ returns c =
     record {
       no_longer = omega (
         arith,
-        c.past-2.ensures.fewer-by-n,
-        c.past.ensures.fewer-by-n,
-        ap length c.step.ensures.rest-begins-there,
+        c.past-2.ensures.fewer_by_n,
+        c.past.ensures.fewer_by_n,
+        ap length c.step.ensures.rest_begins_there,
         length-drop (stop 59 s) s,
-        ap length c.step-2.ensures.rest-begins-there,
+        ap length c.step-2.ensures.rest_begins_there,
         length-drop (stop 59 t) t,
       );
     }

@@ -8,14 +8,14 @@ use Rattle.delivery.proofs.Outcomes.{ok_err}
 use Rattle.delivery.proofs.HandedLines.{going_here, going_more, going_all}
 use Rattle.delivery.proofs.paying.hand_out.Goals as goal
 
-pub returns-in-err-hand-on : goal.returns-in-err-hand-on
-returns-in-err-hand-on g c =
+pub returns-in_err-hand_on : goal.returns-in_err-hand_on
+returns-in_err-hand_on g c =
     let lt : c.loop-line.line-index < length c.loop-line.lines = omega arith in
     record {
       hands = λ can.
           let n = going_here Securities (units_to c.args.to c.args.multiplier) (handed c.args.to) c.loop-line.line-index c.args.lines.now (meaning g.S.Balances c.args.securities.now) c.loop-line.lines (meaning g.S.Balances c.loop-line.securities) no_line lt (c.loop-line.invariant.0 can) in
-          absurd (ok_err (c.hand-on.ensures.hands n).0 c.in-err-hand-on.was);
-      memory_is_kept = c.hand-on.ensures.memory-is-kept ∙ c.loop-line.invariant.1;
+          absurd (ok_err (c.hand_on.ensures.hands n).0 c.in_err-hand_on.was);
+      memory_is_kept = c.hand_on.ensures.memory_is_kept ∙ c.loop-line.invariant.1;
     }
 
 pub loop-line-preserved : goal.loop-line-preserved
@@ -23,9 +23,9 @@ loop-line-preserved g c =
     let lt : c.loop-line.line-index < length c.loop-line.lines = omega arith in (
       (λ can.
           let n = going_here Securities (units_to c.args.to c.args.multiplier) (handed c.args.to) c.loop-line.line-index c.args.lines.now (meaning g.S.Balances c.args.securities.now) c.loop-line.lines (meaning g.S.Balances c.loop-line.securities) no_line lt (c.loop-line.invariant.0 can) in
-          let did = c.hand-on.ensures.hands n in
+          let did = c.hand_on.ensures.hands n in
           going_more Securities (units_to c.args.to c.args.multiplier) (handed c.args.to) c.loop-line.line-index c.args.lines.now (meaning g.S.Balances c.args.securities.now) c.loop-line.lines (meaning g.S.Balances c.loop-line.securities) no_line _ _ lt did.2 did.1 (c.loop-line.invariant.0 can)),
-      c.hand-on.ensures.memory-is-kept ∙ c.loop-line.invariant.1,
+      c.hand_on.ensures.memory_is_kept ∙ c.loop-line.invariant.1,
     )
 
 pub returns : goal.returns

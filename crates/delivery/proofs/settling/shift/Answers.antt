@@ -11,7 +11,7 @@ returns g c =
     let law : Lawful m = g.R.Balances.lawful c.args.register.now in
     let narrow : c.narrowed.result ≡ min c.args.amount most_64 = c.narrowed.ensures in
     record {
-      answers_by_the_rules = c.transfer.ensures.answers-by-the-rules ∙ (ap (transfer_answer m c.args.giver c.args.taker c.args.asset) narrow ∙ ap answer (wide_refused m law c.args.giver c.args.taker c.args.asset c.args.amount));
-      meaning_follows_the_rules = c.transfer.ensures.meaning-follows-the-rules ∙ (ap (after_transfer m c.args.giver c.args.taker c.args.asset) narrow ∙ wide_after m law c.args.giver c.args.taker c.args.asset c.args.amount);
-      memory_is_kept = c.transfer.ensures.memory-is-kept;
+      answers_by_the_rules = c.transfer.ensures.answers_by_the_rules ∙ (ap (transfer_answer m c.args.giver c.args.taker c.args.asset) narrow ∙ ap answer (wide_refused m law c.args.giver c.args.taker c.args.asset c.args.amount));
+      meaning_follows_the_rules = c.transfer.ensures.meaning_follows_the_rules ∙ (ap (after_transfer m c.args.giver c.args.taker c.args.asset) narrow ∙ wide_after m law c.args.giver c.args.taker c.args.asset c.args.amount);
+      memory_is_kept = c.transfer.ensures.memory_is_kept;
     }

@@ -11,8 +11,8 @@ returns c = record {
   differences_bought_less_sold = λ fit.
       let b : Contents = contents c.args.book.now in
       let fits : SFits w64 c.difference.result = search rules in
-      let up : c.saturating-add.result ≡ gains b c.args.lines.now c.args.agent = omega (arith, fit.bought_at_market, fit.sold_at_invoice) in
-      let down : c.saturating-add-2.result ≡ losses b c.args.lines.now c.args.agent = omega (arith, fit.sold_at_market, fit.bought_at_invoice) in
+      let up : c.saturating_add.result ≡ gains b c.args.lines.now c.args.agent = omega (arith, fit.bought_at_market, fit.sold_at_invoice) in
+      let down : c.saturating_add-2.result ≡ losses b c.args.lines.now c.args.agent = omega (arith, fit.sold_at_market, fit.bought_at_invoice) in
       let told = c.difference.ensures (omega (arith, up, fit.bought_at_market, fit.sold_at_invoice)) (omega (arith, down, fit.sold_at_market, fit.bought_at_invoice)) in
       to_z-of_z w64 c.difference.result fits ∙ (told ∙ ((λ i. sub_ℕ (up i) (down i)) ∙ claims_split b c.args.lines.now c.args.agent));
 }

@@ -13,5 +13,5 @@ loop-agent-preserved c =
     let same : to_z w64 (of_z w64 c.claim.result) ≡ c.claim.result = to_z-of_z w64 c.claim.result fits in
     let P : ℕ → ℤ → Type 0 = λ k x. ClaimsFit (contents c.args.book.now) c.args.lines.now k → x ≡ sumℤ (claim_on (contents c.args.book.now) k) c.args.lines.now in (
       length-set c.loop-agent.claims c.loop-agent.agent _ ∙ c.loop-agent.invariant.0,
-      filled_more P c.loop-agent.claims c.loop-agent.agent (to_z w64 (of_z w64 c.claim.result)) (pos 0) room c.loop-agent.invariant.1 (λ fit. same ∙ c.claim.ensures.differences-bought-less-sold fit),
+      filled_more P c.loop-agent.claims c.loop-agent.agent (to_z w64 (of_z w64 c.claim.result)) (pos 0) room c.loop-agent.invariant.1 (λ fit. same ∙ c.claim.ensures.differences_bought_less_sold fit),
     )

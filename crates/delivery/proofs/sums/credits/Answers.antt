@@ -11,5 +11,5 @@ loop-agent-preserved c =
     let P : ℕ → ℕ → Type 0 = λ k x. ValuesFit (contents c.args.book.now) c.args.lines.now k
     → x ≡ value_sold (contents c.args.book.now) (λ z. z.contracts) c.args.lines.now k - value_bought (contents c.args.book.now) (λ z. z.contracts) c.args.lines.now k in (
       length-set c.loop-agent.amounts c.loop-agent.agent _ ∙ c.loop-agent.invariant.0,
-      filled_more P c.loop-agent.amounts c.loop-agent.agent c.credit.result 0 room c.loop-agent.invariant.1 c.credit.ensures.net-above-0,
+      filled_more P c.loop-agent.amounts c.loop-agent.agent c.credit.result 0 room c.loop-agent.invariant.1 c.credit.ensures.net_above_0,
     )

@@ -13,5 +13,5 @@ loop-agent-preserved c =
     let same : to_z w64 (of_z w64 c.net.result) ≡ c.net.result = to_z-of_z w64 c.net.result fits in
     let P : ℕ → ℤ → Type 0 = λ k x. ValuesFit (contents c.args.book.now) c.args.lines.now k → x ≡ net (contents c.args.book.now) c.args.lines.now k in (
       length-set c.loop-agent.nets c.loop-agent.agent _ ∙ c.loop-agent.invariant.0,
-      filled_more P c.loop-agent.nets c.loop-agent.agent (to_z w64 (of_z w64 c.net.result)) (pos 0) room c.loop-agent.invariant.1 (λ fit. same ∙ c.net.ensures.sold-less-bought fit),
+      filled_more P c.loop-agent.nets c.loop-agent.agent (to_z w64 (of_z w64 c.net.result)) (pos 0) room c.loop-agent.invariant.1 (λ fit. same ∙ c.net.ensures.sold_less_bought fit),
     )

@@ -12,33 +12,33 @@ use Rattle.intake.proofs.Drawn.{with_draws, draw_past, draw_not_due, draw_refuse
 use Rattle.intake.proofs.draws.draw_made.Goals as goal
 use Rattle.intake.proofs.draws.draw_made.Goals.{then-amount-eq0-via-then-amount-eq0, then-amount-eq0-via-else-amount-eq0+then-state-agent-ne0}
 
-pub returns-then-agent-ge-AGENT-PLACES : goal.returns-then-agent-ge-AGENT-PLACES
-returns-then-agent-ge-AGENT-PLACES g c = record {
+pub returns-then-agent-ge-AGENT_PLACES : goal.returns-then-agent-ge-AGENT_PLACES
+returns-then-agent-ge-AGENT_PLACES g c = record {
   goes_on_by_the_rules = λ s rest many o h st now'.
-      draw_past o h c.args.state.now c.args.lines.now rest s (meaning g.C.Balances c.args.cash.now) st many c.args.agent now' c.if-agent-ge-AGENT-PLACES.true;
+      draw_past o h c.args.state.now c.args.lines.now rest s (meaning g.C.Balances c.args.cash.now) st many c.args.agent now' c.if-agent-ge-AGENT_PLACES.true;
   memory_is_kept = refl;
 }
 
 pub returns-then-amount-eq0 : goal.returns-then-amount-eq0
 returns-then-amount-eq0 g c = record {
   goes_on_by_the_rules = λ s rest many o h st now'.
-      draw_not_due o h c.args.state.now c.args.lines.now rest s (meaning g.C.Balances c.args.cash.now) st many c.args.agent now' c.debit-amount.result c.debit-amount.ensures.net-below-0
+      draw_not_due o h c.args.state.now c.args.lines.now rest s (meaning g.C.Balances c.args.cash.now) st many c.args.agent now' c.debit-amount.result c.debit-amount.ensures.net_below_0
       (elim c.then-amount-eq0.branch [ then-amount-eq0-via-then-amount-eq0 w ↦ inl w.if-amount-eq0.true | then-amount-eq0-via-else-amount-eq0+then-state-agent-ne0 w ↦ inr w.if-state-agent-ne0.true ]);
   memory_is_kept = refl;
 }
 
-pub returns-in-err-draw : goal.returns-in-err-draw
-returns-in-err-draw g c =
-    let p = err_from_is_err_and c.from-residual.result c.from-residual.ensures.1 in
+pub returns-in_err-draw : goal.returns-in_err-draw
+returns-in_err-draw g c =
+    let p = err_from_is_err_and c.from_residual.result c.from_residual.ensures.1 in
     record {
       goes_on_by_the_rules = λ s rest many o h st now'.
           subst (λ (r : Result Answer Cause). Stands o ((draw_call c.args.agent, answered (draw_call c.args.agent) r) ∷ h)
           (seen c.args.state.now (c.args.lines.now ++ rest) s (meaning g.C.Balances c.draw.new.cash)))
           (sym (p.1 ∙ ap Err p.2))
-          (draw_refused o h c.args.state.now c.args.lines.now rest s (meaning g.C.Balances c.args.cash.now) st many c.args.agent now' c.debit-amount.result c.debit-amount.ensures.net-below-0
-          (let z = c.if-amount-eq0.false in omega (arith, z)) c.if-state-agent-ne0.false c.in-err-draw.field-0.0 (meaning g.C.Balances c.draw.new.cash)
-          (sym c.draw.ensures.answers-by-the-rules ∙ c.in-err-draw.was) c.draw.ensures.meaning-follows-the-rules);
-      memory_is_kept = c.draw.ensures.memory-is-kept;
+          (draw_refused o h c.args.state.now c.args.lines.now rest s (meaning g.C.Balances c.args.cash.now) st many c.args.agent now' c.debit-amount.result c.debit-amount.ensures.net_below_0
+          (let z = c.if-amount-eq0.false in omega (arith, z)) c.if-state-agent-ne0.false c.in_err-draw.field-0.0 (meaning g.C.Balances c.draw.new.cash)
+          (sym c.draw.ensures.answers_by_the_rules ∙ c.in_err-draw.was) c.draw.ensures.meaning_follows_the_rules);
+      memory_is_kept = c.draw.ensures.memory_is_kept;
     }
 
 pub returns : goal.returns
@@ -46,8 +46,8 @@ returns g c = record {
   goes_on_by_the_rules = λ s rest many o h st now'.
       subst (λ (draws : List ℕ). Stands o ((draw_call c.args.agent, Ok Done) ∷ h) (seen (with_draws c.args.state.now draws) (c.args.lines.now ++ rest) s (meaning g.C.Balances c.draw.new.cash)))
       (sym c.hold.ensures.held)
-      (draw_accepted o h c.args.state.now c.args.lines.now rest s (meaning g.C.Balances c.args.cash.now) st many c.args.agent now' c.debit-amount.result c.debit-amount.ensures.net-below-0
+      (draw_accepted o h c.args.state.now c.args.lines.now rest s (meaning g.C.Balances c.args.cash.now) st many c.args.agent now' c.debit-amount.result c.debit-amount.ensures.net_below_0
       (let z = c.if-amount-eq0.false in omega (arith, z)) c.if-state-agent-ne0.false (meaning g.C.Balances c.draw.new.cash)
-      (sym c.draw.ensures.answers-by-the-rules ∙ c.in-ok-draw.was) c.draw.ensures.meaning-follows-the-rules c.hold.ensures.there);
-  memory_is_kept = c.draw.ensures.memory-is-kept;
+      (sym c.draw.ensures.answers_by_the_rules ∙ c.in_ok-draw.was) c.draw.ensures.meaning_follows_the_rules c.hold.ensures.there);
+  memory_is_kept = c.draw.ensures.memory_is_kept;
 }

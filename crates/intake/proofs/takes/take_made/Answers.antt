@@ -16,24 +16,24 @@ pub returns-then-due-eq0 : goal.returns-then-due-eq0
 returns-then-due-eq0 g c = record {
   goes_on_by_the_rules = λ member number cash at rest many o h st now'.
       take_not_due o h c.args.state.now c.args.lines.now rest (meaning g.S.Balances c.args.securities.now) cash st many member number c.args.asset c.args.row at
-      c.outstanding-due.result c.outstanding-due.ensures.all-that-are-open c.if-due-eq0.true now';
+      c.outstanding-due.result c.outstanding-due.ensures.all_that_are_open c.if-due-eq0.true now';
   memory_is_kept = refl;
 }
 
-pub returns-in-err-take : goal.returns-in-err-take
-returns-in-err-take g c =
-    let p = err_from_is_err_and c.from-residual.result c.from-residual.ensures.1 in
+pub returns-in_err-take : goal.returns-in_err-take
+returns-in_err-take g c =
+    let p = err_from_is_err_and c.from_residual.result c.from_residual.ensures.1 in
     record {
       goes_on_by_the_rules = λ member number cash at rest many o h st now'.
           subst (λ (r : Result Answer Cause). Stands o ((take_call member number c.args.asset, answered (take_call member number c.args.asset) r) ∷ h)
           (seen c.args.state.now (c.take.new.lines ++ rest) (meaning g.S.Balances c.take.new.securities) cash))
-          (ap (took c.contracts-asked-contracts.result) c.in-err-take.was ∙ sym (p.1 ∙ ap Err p.2))
+          (ap (took c.contracts_asked-contracts.result) c.in_err-take.was ∙ sym (p.1 ∙ ap Err p.2))
           (take_goes o h c.args.state.now c.args.lines.now rest (meaning g.S.Balances c.args.securities.now) cash st many member number c.args.asset c.args.row at
-          c.outstanding-due.result c.terms-multiplier.result.multiplier c.contracts-asked-contracts.result c.outstanding-due.ensures.all-that-are-open (let z = c.if-due-eq0.false in omega (arith, z))
+          c.outstanding-due.result c.terms-multiplier.result.multiplier c.contracts_asked-contracts.result c.outstanding-due.ensures.all_that_are_open (let z = c.if-due-eq0.false in omega (arith, z))
           (ap (λ (x : Terms). x.multiplier) c.terms-multiplier.ensures.value)
-          (c.contracts-asked-contracts.ensures ∙ ap (asked_for c.args.state.now.session c.outstanding-due.result) c.covered.ensures.whole-contracts) now'
-          c.take.result (meaning g.S.Balances c.take.new.securities) c.take.new.lines c.take.ensures.answers-by-the-rules c.take.ensures.meaning-follows-the-rules c.take.ensures.taken-or-as-they-were);
-      memory_is_kept = c.take.ensures.memory-is-kept;
+          (c.contracts_asked-contracts.ensures ∙ ap (asked_for c.args.state.now.session c.outstanding-due.result) c.covered.ensures.whole_contracts) now'
+          c.take.result (meaning g.S.Balances c.take.new.securities) c.take.new.lines c.take.ensures.answers_by_the_rules c.take.ensures.meaning_follows_the_rules c.take.ensures.taken_or_as_they_were);
+      memory_is_kept = c.take.ensures.memory_is_kept;
     }
 
 pub returns : goal.returns
@@ -41,11 +41,11 @@ returns g c = record {
   goes_on_by_the_rules = λ member number cash at rest many o h st now'.
       subst (λ (r : Result Answer Cause). Stands o ((take_call member number c.args.asset, answered (take_call member number c.args.asset) r) ∷ h)
       (seen c.args.state.now (c.take.new.lines ++ rest) (meaning g.S.Balances c.take.new.securities) cash))
-      (ap (took c.contracts-asked-contracts.result) c.in-ok-take.was)
+      (ap (took c.contracts_asked-contracts.result) c.in_ok-take.was)
       (take_goes o h c.args.state.now c.args.lines.now rest (meaning g.S.Balances c.args.securities.now) cash st many member number c.args.asset c.args.row at
-      c.outstanding-due.result c.terms-multiplier.result.multiplier c.contracts-asked-contracts.result c.outstanding-due.ensures.all-that-are-open (let z = c.if-due-eq0.false in omega (arith, z))
+      c.outstanding-due.result c.terms-multiplier.result.multiplier c.contracts_asked-contracts.result c.outstanding-due.ensures.all_that_are_open (let z = c.if-due-eq0.false in omega (arith, z))
       (ap (λ (x : Terms). x.multiplier) c.terms-multiplier.ensures.value)
-      (c.contracts-asked-contracts.ensures ∙ ap (asked_for c.args.state.now.session c.outstanding-due.result) c.covered.ensures.whole-contracts) now'
-      c.take.result (meaning g.S.Balances c.take.new.securities) c.take.new.lines c.take.ensures.answers-by-the-rules c.take.ensures.meaning-follows-the-rules c.take.ensures.taken-or-as-they-were);
-  memory_is_kept = c.take.ensures.memory-is-kept;
+      (c.contracts_asked-contracts.ensures ∙ ap (asked_for c.args.state.now.session c.outstanding-due.result) c.covered.ensures.whole_contracts) now'
+      c.take.result (meaning g.S.Balances c.take.new.securities) c.take.new.lines c.take.ensures.answers_by_the_rules c.take.ensures.meaning_follows_the_rules c.take.ensures.taken_or_as_they_were);
+  memory_is_kept = c.take.ensures.memory_is_kept;
 }

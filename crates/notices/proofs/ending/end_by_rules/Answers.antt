@@ -13,8 +13,8 @@ returns-in-Ok c =
     let f = c.in-Ok.ensures in
     record {
       goes_on_by_the_rules = λ lines s m clearing o h st now'.
-          subst (λ (x : State). Stands o ((end_call, Ok Done) ∷ h) (seen x lines s m)) (sym c.on-to-pairing.ensures)
-          (end_accepted o h c.args.state.now lines s m st long clearing now' c.hand-out.new.records f.records-as-defined f.adds-what-the-end-adds);
+          subst (λ (x : State). Stands o ((end_call, Ok Done) ∷ h) (seen x lines s m)) (sym c.on_to_pairing.ensures)
+          (end_accepted o h c.args.state.now lines s m st long clearing now' c.hand_out.new.records f.records_as_defined f.adds_what_the_end_adds);
     }
 
 -- There is a record for every holder.
@@ -23,5 +23,5 @@ returns-in-Err c =
     let long : length c.args.state.now.lots ≡ 256 = search rules in
     record {
       goes_on_by_the_rules = λ lines s m clearing o h st now'.
-          absurd (never_few o h c.args.state.now lines s m st long c.hand-out.result c.in-Err.field-0 c.hand-out.ensures.answers-if-handed-out c.in-Err.is);
+          absurd (never_few o h c.args.state.now lines s m st long c.hand_out.result c.in-Err.field-0 c.hand_out.ensures.answers_if_handed_out c.in-Err.is);
     }

@@ -20,7 +20,7 @@ returns-in-Some-fault c =
     record {
       place_or_cause = sym (ap (λ (x : Option Cause). place_or x row)
           (stops_at_seller b c.args.state.now.session (record_of c.args.state.now.lots row).notified c.args.speaker c.args.member c.args.number c.args.asset c.args.contracts seller.3
-          ∙ (sym same ∙ (sym c.notice-fault-fault.ensures ∙ c.in-Some-fault.is))));
+          ∙ (sym same ∙ (sym c.notice_fault-fault.ensures ∙ c.in-Some-fault.is))));
       fits = tt;
     }
 
@@ -31,7 +31,7 @@ returns-in-None-fault c =
     let place : ℕ = c.in-Some.place in
     let seller = c.in-Some.ensures in
     let same = by_row b c.holders.result.now c.assets.result.now c.args.state.now.lots row place c.args.state.now.session c.args.speaker c.args.asset c.args.contracts c.holders.ensures.value c.assets.ensures.value seller.0 in
-    let none = sym same ∙ (sym c.notice-fault-fault.ensures ∙ c.in-None-fault.is) in
+    let none = sym same ∙ (sym c.notice_fault-fault.ensures ∙ c.in-None-fault.is) in
     let at : row - 1 ≡ place = omega (arith, seller.0) in
     record {
       place_or_cause = sym (ap (λ (x : Option Cause). place_or x row)

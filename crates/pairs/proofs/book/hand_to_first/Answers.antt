@@ -6,8 +6,8 @@ use Rattle.pairs.proofs.BookBounds.{few_of_each}
 use Rattle.pairs.proofs.Outcomes.{handed_out}
 use Rattle.pairs.proofs.book.hand_to_first.Goals as goal
 
-pub hand-rows-requires : goal.hand-rows-requires
-hand-rows-requires c =
+pub hand_rows-requires : goal.hand_rows-requires
+hand_rows-requires c =
     let book = c.args.book.now in
     let xs = ap length c.assets.ensures.value in
     let hs = ap length c.holders-holders.ensures.value in
@@ -23,6 +23,6 @@ pub returns : goal.returns
 returns c =
     let book = c.args.book.now in
     let hs = ap length c.holders-holders.ensures.value in
-    let w = handed_out book c.args.records.now c.hand-rows.new.records c.assets.result.now c.holders-holders.result.now c.first_deliverable.result
-    (omega (arith, hs)) c.assets.ensures.value c.holders-holders.ensures.value c.first_deliverable.ensures.value c.hand-rows.ensures in
+    let w = handed_out book c.args.records.now c.hand_rows.new.records c.assets.result.now c.holders-holders.result.now c.first_deliverable.result
+    (omega (arith, hs)) c.assets.ensures.value c.holders-holders.ensures.value c.first_deliverable.ensures.value c.hand_rows.ensures in
     record { answers_if_handed_out = w.answer; records_as_defined = w.leaves; adds_what_the_end_adds = w.adds }

@@ -10,8 +10,8 @@ returns c =
     let xs = c.assets.result.now in
     let hs = c.holders-holders.result.now in
     let n = ap length c.holders-holders.ensures.value in
-    let all = c.lines-of-rows.ensures in
-    let w = written b (lots_in b c.args.lots.now) c.args.lines.now c.lines-of-rows.new.lines c.lines-of-rows.result (omega (arith, n))
-    (all.by-the-rule ∙ rows_lines b xs hs c.args.lots.now c.assets.ensures.value c.holders-holders.ensures.value)
-    all.later-places-stay (omega (arith, n, all.room)) in
+    let all = c.lines_of_rows.ensures in
+    let w = written b (lots_in b c.args.lots.now) c.args.lines.now c.lines_of_rows.new.lines c.lines_of_rows.result (omega (arith, n))
+    (all.by_the_rule ∙ rows_lines b xs hs c.args.lots.now c.assets.ensures.value c.holders-holders.ensures.value)
+    all.later_places_stay (omega (arith, n, all.room)) in
     record { answers_the_count = w.answer; lines_as_defined = w.leaves; count_within_the_table = omega (arith, n, all.room) }

@@ -13,10 +13,10 @@ returns c =
     let b = contents c.args.book.now in
     let lots = lots_in b c.args.lots.now in
     record {
-      answers_the_count = c.pair-book.ensures.answers-the-count;
-      lines_as_defined = c.pair-book.ensures.lines-as-defined;
-      count_within_the_table = c.pair-book.ensures.count-within-the-table;
-      lines_keep_the_laws = of_lines b lots c.args.lines.now c.pair-book.new.lines c.pair-book.result
-          c.pair-book.ensures.answers-the-count c.pair-book.ensures.lines-as-defined
+      answers_the_count = c.pair_book.ensures.answers_the_count;
+      lines_as_defined = c.pair_book.ensures.lines_as_defined;
+      count_within_the_table = c.pair_book.ensures.count_within_the_table;
+      lines_keep_the_laws = of_lines b lots c.args.lines.now c.pair_book.new.lines c.pair_book.result
+          c.pair_book.ensures.answers_the_count c.pair_book.ensures.lines_as_defined
           (λ (ls : List Line). 0 < length b.holders → Lawful b lots ls) (λ some. lines_lawful b (book_sound c.args.book.now some) lots);
     }

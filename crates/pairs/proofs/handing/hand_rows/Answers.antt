@@ -7,7 +7,7 @@ use Rattle.pairs.proofs.handing.hand_rows.Goals as goal
 
 pub loop-i-preserved : goal.loop-i-preserved
 loop-i-preserved c =
-    handed_more c.args.assets c.args.first c.loop-i.i c.args.holders.now c.loop-i.records c.hand-one.result (omega arith) (omega arith) c.hand-one.ensures
+    handed_more c.args.assets c.args.first c.loop-i.i c.args.holders.now c.loop-i.records c.hand_one.result (omega arith) (omega arith) c.hand_one.ensures
     ∙ c.loop-i.invariant
 
 pub returns : goal.returns

@@ -5,4 +5,4 @@ use Rattle.pairs.proofs.handing.unnotified.Goals as goal
 pub loop-asset-preserved : goal.loop-asset-preserved
 loop-asset-preserved c =
     let more = row_more 0 c.loop-asset.asset c.args.assets c.args.r.now.lots (omega arith) in
-    omega (arith, more, c.saturating-sub-left.ensures, c.loop-asset.invariant)
+    omega (arith, more, c.saturating_sub-left.ensures, c.loop-asset.invariant)

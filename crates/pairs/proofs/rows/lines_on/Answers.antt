@@ -13,10 +13,10 @@ use Rattle.pairs.proofs.rows.lines_on.Goals as goal
 part_is : (n : ℕ) (ps qs : List Pair) → take n ps ≡ qs → take (n - 0) ps ≡ qs
 part_is n ps qs e = ap (λ k. take k ps) (sub-zero n) ∙ e
 
-pub add-pairs-requires : goal.add-pairs-requires
-add-pairs-requires c =
+pub add_pairs-requires : goal.add_pairs-requires
+add_pairs-requires c =
     let hs = map unpaired c.args.holders.now in
-    let is = part_is c.pair-on-made.result c.pair-on-made.new.pairs (in_groups all_groups hs).0 c.pair-on-made.ensures.by-the-rule in
+    let is = part_is c.pair_on-made.result c.pair_on-made.new.pairs (in_groups all_groups hs).0 c.pair_on-made.ensures.by_the_rule in
     let same = rows_length c.args.holders.now in
     let Near : List Pair → Type 0 = λ ps. All (λ (p : Pair). (p.buyer < 256) × (p.seller < 256)) ps in
     record {
@@ -28,11 +28,11 @@ add-pairs-requires c =
 pub returns : goal.returns
 returns c =
     let hs = map unpaired c.args.holders.now in
-    let is = part_is c.pair-on-made.result c.pair-on-made.new.pairs (in_groups all_groups hs).0 c.pair-on-made.ensures.by-the-rule in
+    let is = part_is c.pair_on-made.result c.pair_on-made.new.pairs (in_groups all_groups hs).0 c.pair_on-made.ensures.by_the_rule in
     let same = rows_length c.args.holders.now in
     let L = lots_from c.args.assets 1 c.args.lots.now in
     record {
-      by_the_rule = c.add-pairs.ensures.by-the-rule ∙ ap (λ (ps : List Pair). lines_of_pairs L c.args.assets ps []) is;
-      later_places_stay = c.add-pairs.ensures.later-places-stay;
-      room = omega (arith, ap length is, pairs_few all_groups hs, same, c.add-pairs.ensures.room);
+      by_the_rule = c.add_pairs.ensures.by_the_rule ∙ ap (λ (ps : List Pair). lines_of_pairs L c.args.assets ps []) is;
+      later_places_stay = c.add_pairs.ensures.later_places_stay;
+      room = omega (arith, ap length is, pairs_few all_groups hs, same, c.add_pairs.ensures.room);
     }

@@ -9,9 +9,9 @@ pub loop-i-preserved : goal.loop-i-preserved
 loop-i-preserved c =
     let hs = c.args.holders.now in
     let i = c.loop-i.i in
-    let y = c.unpaired-one.result in
+    let y = c.unpaired_one.result in
     take_more_set c.loop-i.out i y (omega arith) ∙ ap (λ (l : List Unpaired). l ++ y ∷ []) c.loop-i.invariant
-    ∙ ap (λ (x : Unpaired). map unpaired (take i hs) ++ x ∷ []) c.unpaired-one.ensures ∙ sym (map_more unpaired hs i nobody (omega arith))
+    ∙ ap (λ (x : Unpaired). map unpaired (take i hs) ++ x ∷ []) c.unpaired_one.ensures ∙ sym (map_more unpaired hs i nobody (omega arith))
 
 pub returns : goal.returns
 returns c =

@@ -10,9 +10,9 @@ pub loop-i-preserved : goal.loop-i-preserved
 loop-i-preserved c =
     let hs = c.args.holders.now in
     let i = c.loop-i.i in
-    let y = c.mask-one.result in
+    let y = c.mask_one.result in
     let f : Unpaired → Unpaired = λ h. masked (passes c.args.group c.args.buys c.args.equal hs h) h in
-    let is : y ≡ f (at hs i) = c.mask-one.ensures ∙ ap (λ t. masked t (at hs i)) c.stands-for.ensures in
+    let is : y ≡ f (at hs i) = c.mask_one.ensures ∙ ap (λ t. masked t (at hs i)) c.stands_for.ensures in
     let front : List Unpaired → List Unpaired = λ l. l ++ y ∷ [] in
     let back : Unpaired → List Unpaired = λ x. map f (take i hs) ++ x ∷ [] in
     take_more_set c.loop-i.out i y (omega arith) ∙ ap front c.loop-i.invariant ∙ ap back is ∙ sym (map_more f hs i no_holder (omega arith))

@@ -10,11 +10,11 @@ returns c =
     let hs = c.args.holders.now in
     record {
       by_the_rule = ap (λ (m : Made). m.0) (stages_then 999 999 64 hs
-          (so_far c.pair-stage-count.new.pairs c.pair-stage-count.result c.pair-stage-count.new.holders)
-          (so_far c.pair-stage-count-2.new.pairs c.pair-stage-count-2.result c.pair-stage-count-2.new.holders)
-          (so_far c.pair-stage-count-3.new.pairs c.pair-stage-count-3.result c.pair-stage-count-3.new.holders)
-          (so_far c.pair-group.new.pairs c.pair-group.result c.pair-group.new.holders)
-          c.pair-stage-count.ensures.by-the-rule c.pair-stage-count-2.ensures.by-the-rule c.pair-stage-count-3.ensures.by-the-rule c.pair-group.ensures.by-the-rule
+          (so_far c.pair_stage-count.new.pairs c.pair_stage-count.result c.pair_stage-count.new.holders)
+          (so_far c.pair_stage-count-2.new.pairs c.pair_stage-count-2.result c.pair_stage-count-2.new.holders)
+          (so_far c.pair_stage-count-3.new.pairs c.pair_stage-count-3.result c.pair_stage-count-3.new.holders)
+          (so_far c.pair_group.new.pairs c.pair_group.result c.pair_group.new.holders)
+          c.pair_stage-count.ensures.by_the_rule c.pair_stage-count-2.ensures.by_the_rule c.pair_stage-count-3.ensures.by_the_rule c.pair_group.ensures.by_the_rule
           ∙ sym (ap (λ gs. in_groups gs hs) groups_are));
-      room = omega (arith, c.pair-group.ensures.room);
+      room = omega (arith, c.pair_group.ensures.room);
     }

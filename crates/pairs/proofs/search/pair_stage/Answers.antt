@@ -13,8 +13,8 @@ loop-k-preserved c =
     let here : Made = so_far c.loop-k.pairs c.loop-k.count c.loop-k.holders in
     let rest : List Group = numbered stage (k + 1 + 1) (n - (k + 1)) in (
       omega arith,
-      omega (arith, c.pair-group-count.ensures.room),
-      ap (λ (m : Made). and_then m (in_groups rest)) (c.pair-group-count.ensures.by-the-rule ∙ ap (λ (g : Group). and_then here (in_group g)) c.group-after.ensures)
+      omega (arith, c.pair_group-count.ensures.room),
+      ap (λ (m : Made). and_then m (in_groups rest)) (c.pair_group-count.ensures.by_the_rule ∙ ap (λ (g : Group). and_then here (in_group g)) c.group_after.ensures)
           ∙ groups_more here (record { stage = stage; number = k + 1 }) rest
           ∙ ap (λ gs. and_then here (in_groups gs)) (sym (numbered_more stage k n (omega arith)))
           ∙ c.loop-k.invariant.2,

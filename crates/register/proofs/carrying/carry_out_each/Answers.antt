@@ -7,7 +7,7 @@ use Rattle.register.specs.Registers.{meaning}
 use Rattle.register.specs.Instructions.{instruction_answer, after_instruction, after_all, alike, all_alike}
 use Rattle.register.proofs.Alike.{all_more, alike_more, one_meaning}
 use Rattle.register.proofs.carrying.carry_out_each.Goals as goal
-use Rattle.register.proofs.carrying.carry_out_each.Goals.{then-same-answer, else-same-answer}
+use Rattle.register.proofs.carrying.carry_out_each.Goals.{then-same_answer, else-same_answer}
 
 pub loop-instruction-preserved : goal.loop-instruction-preserved
 loop-instruction-preserved g c =
@@ -18,15 +18,15 @@ loop-instruction-preserved g c =
     let h = c.loop-instruction-test.true in
     let o : Instruction = get_or es i (Credit 0 0 0) in
     let inv = c.loop-instruction.invariant in
-    let a_is = c.carry-out-a.ensures.answers-by-the-rules ∙ ap (λ k. instruction_answer k o) inv.0 in
-    let b_is = c.carry-out-b.ensures.answers-by-the-rules ∙ ap (λ k. instruction_answer k o) inv.1 in
-    let res : c.same-answer.result ≡ alike (instruction_answer (after_all m (take i es)) o) (instruction_answer (after_all n (take i es)) o) = c.same-answer.ensures ∙ ap (λ k. alike k c.carry-out-b.result) a_is ∙ ap (λ k. alike (instruction_answer (after_all m (take i es)) o) k) b_is in
-    let test : c.if-same-answer.same ≡ (c.same-answer.result && c.loop-instruction.same) = elim c.if-same-answer.branch [ then-same-answer w ↦ w.same-is ∙ sym (ap (λ b. b && c.loop-instruction.same) w.if-same-answer.true) | else-same-answer w ↦ w.same-is ∙ w.if-same-answer.false ∙ sym (ap (λ b. b && c.loop-instruction.same) w.if-same-answer.false) ] in (
-      c.carry-out-a.ensures.meaning-follows-the-rules ∙ ap (λ k. after_instruction k o) inv.0 ∙ sym (all_more m es i (Credit 0 0 0) h),
-      c.carry-out-b.ensures.meaning-follows-the-rules ∙ ap (λ k. after_instruction k o) inv.1 ∙ sym (all_more n es i (Credit 0 0 0) h),
+    let a_is = c.carry_out-a.ensures.answers_by_the_rules ∙ ap (λ k. instruction_answer k o) inv.0 in
+    let b_is = c.carry_out-b.ensures.answers_by_the_rules ∙ ap (λ k. instruction_answer k o) inv.1 in
+    let res : c.same_answer.result ≡ alike (instruction_answer (after_all m (take i es)) o) (instruction_answer (after_all n (take i es)) o) = c.same_answer.ensures ∙ ap (λ k. alike k c.carry_out-b.result) a_is ∙ ap (λ k. alike (instruction_answer (after_all m (take i es)) o) k) b_is in
+    let test : c.if-same_answer.same ≡ (c.same_answer.result && c.loop-instruction.same) = elim c.if-same_answer.branch [ then-same_answer w ↦ w.same-is ∙ sym (ap (λ b. b && c.loop-instruction.same) w.if-same_answer.true) | else-same_answer w ↦ w.same-is ∙ w.if-same_answer.false ∙ sym (ap (λ b. b && c.loop-instruction.same) w.if-same_answer.false) ] in (
+      c.carry_out-a.ensures.meaning_follows_the_rules ∙ ap (λ k. after_instruction k o) inv.0 ∙ sym (all_more m es i (Credit 0 0 0) h),
+      c.carry_out-b.ensures.meaning_follows_the_rules ∙ ap (λ k. after_instruction k o) inv.1 ∙ sym (all_more n es i (Credit 0 0 0) h),
       test ∙ ap (λ b. b && c.loop-instruction.same) res ∙ ap (λ t. alike (instruction_answer (after_all m (take i es)) o) (instruction_answer (after_all n (take i es)) o) && t) inv.2 ∙ sym (alike_more m n es i (Credit 0 0 0) h),
-      c.carry-out-a.ensures.memory-is-kept ∙ inv.3,
-      c.carry-out-b.ensures.memory-is-kept ∙ inv.4,
+      c.carry_out-a.ensures.memory_is_kept ∙ inv.3,
+      c.carry_out-b.ensures.memory_is_kept ∙ inv.4,
     )
 
 pub returns : goal.returns

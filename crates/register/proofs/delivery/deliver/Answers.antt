@@ -7,12 +7,12 @@ use Rattle.register.proofs.delivery.deliver.Goals as goal
 
 pub exchange-requires : goal.exchange-requires
 exchange-requires g c =
-    record { accepted = accepted_none (delivery_refused (meaning g.S.Balances c.args.securities.now) (meaning g.C.Balances c.args.cash.now) c.args.delivery) c.in-ok-check-delivery.ensures.answers-by-the-rules }
+    record { accepted = accepted_none (delivery_refused (meaning g.S.Balances c.args.securities.now) (meaning g.C.Balances c.args.cash.now) c.args.delivery) c.in_ok-check_delivery.ensures.answers_by_the_rules }
 
-pub returns-in-err-check-delivery : goal.returns-in-err-check-delivery
-returns-in-err-check-delivery g c =
+pub returns-in_err-check_delivery : goal.returns-in_err-check_delivery
+returns-in_err-check_delivery g c =
     let refused = delivery_refused (meaning g.S.Balances c.args.securities.now) (meaning g.C.Balances c.args.cash.now) c.args.delivery in
-    let told = c.in-err-check-delivery.ensures.answers-by-the-rules in
+    let told = c.in_err-check_delivery.ensures.answers_by_the_rules in
     record {
       answers_by_the_rules = search rules;
       meaning_follows_the_rules = (refused_keeps refused _ _ _ told, refused_keeps refused _ _ _ told);
@@ -25,7 +25,7 @@ returns g c =
     let d = c.args.delivery in
     let s : Meaning = meaning g.S.Balances c.args.securities.now in
     let m : Meaning = meaning g.C.Balances c.args.cash.now in
-    let told = c.in-ok-check-delivery.ensures.answers-by-the-rules in
+    let told = c.in_ok-check_delivery.ensures.answers_by_the_rules in
     let none : delivery_refused s m d ≡ None = accepted_none (delivery_refused s m d) told in
     let units = c.exchange.ensures.units in
     let money = c.exchange.ensures.money in

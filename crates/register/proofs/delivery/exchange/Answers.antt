@@ -12,7 +12,7 @@ returns g c =
     let m : Meaning = meaning g.C.Balances c.args.cash.now in
     let both = both_accepted (units_refused s d) (money_refused m d) c.requires.accepted in
     record {
-      units = c.transfer.ensures.meaning-follows-the-rules ∙ ap (λ refused. unless_refused refused (units_moved s d) s) both.0;
-      money = c.transfer-2.ensures.meaning-follows-the-rules ∙ ap (λ refused. unless_refused refused (money_moved m d) m) both.1;
-      lenders = (c.transfer.ensures.memory-is-kept, c.transfer-2.ensures.memory-is-kept);
+      units = c.transfer.ensures.meaning_follows_the_rules ∙ ap (λ refused. unless_refused refused (units_moved s d) s) both.0;
+      money = c.transfer-2.ensures.meaning_follows_the_rules ∙ ap (λ refused. unless_refused refused (money_moved m d) m) both.1;
+      lenders = (c.transfer.ensures.memory_is_kept, c.transfer-2.ensures.memory_is_kept);
     }

@@ -14,8 +14,8 @@ loop-instruction-preserved g c =
     let i = c.loop-instruction.instruction-index in
     let m : Meaning = meaning g.R.Balances c.args.register.now in
     let o : Instruction = get_or es i (Credit 0 0 0) in (
-      c.carry-out.ensures.meaning-follows-the-rules ∙ ap (λ k. after_instruction k o) c.loop-instruction.invariant.0 ∙ sym (all_more m es i (Credit 0 0 0) c.loop-instruction-test.true),
-      c.carry-out.ensures.memory-is-kept ∙ c.loop-instruction.invariant.1,
+      c.carry_out.ensures.meaning_follows_the_rules ∙ ap (λ k. after_instruction k o) c.loop-instruction.invariant.0 ∙ sym (all_more m es i (Credit 0 0 0) c.loop-instruction-test.true),
+      c.carry_out.ensures.memory_is_kept ∙ c.loop-instruction.invariant.1,
     )
 
 pub returns : goal.returns

@@ -16,14 +16,14 @@ asked b ls draws h agent r t e p q = ap (λ (x : ℕ). ltb (get_or draws x 0) (d
 pub loop-h-init : goal.loop-h-init
 loop-h-init c = λ _. refl
 
-pub returns-then-falls-short : goal.returns-then-falls-short
-returns-then-falls-short c = λ fit.
+pub returns-then-falls_short : goal.returns-then-falls_short
+returns-then-falls_short c = λ fit.
     let b : Contents = contents c.args.state.now.book in
     let P : Holder → Bool = short b c.args.lines.now c.args.state.now.draws in
     let items : List Holder = c.holders-h-items.result.now in
     sym (ap not (ap (any P) (sym c.holders-h-items.ensures.value) ∙ (c.loop-h.invariant fit
     ∙ any_yes P items c.loop-h.h-index nobody c.loop-h-test.true
-    (asked b c.args.lines.now c.args.state.now.draws (get_or items c.loop-h.h-index nobody) c.from.result c.falls-short.result _ c.from.ensures (c.falls-short.ensures (fit c.from.result)) c.if-falls-short.true))))
+    (asked b c.args.lines.now c.args.state.now.draws (get_or items c.loop-h.h-index nobody) c.from.result c.falls_short.result _ c.from.ensures (c.falls_short.ensures (fit c.from.result)) c.if-falls_short.true))))
 
 pub loop-h-preserved : goal.loop-h-preserved
 loop-h-preserved c = λ fit.
@@ -31,7 +31,7 @@ loop-h-preserved c = λ fit.
     let P : Holder → Bool = short b c.args.lines.now c.args.state.now.draws in
     let items : List Holder = c.holders-h-items.result.now in
     c.loop-h.invariant fit ∙ any_no P items c.loop-h.h-index nobody c.loop-h-test.true
-    (asked b c.args.lines.now c.args.state.now.draws (get_or items c.loop-h.h-index nobody) c.from.result c.falls-short.result _ c.from.ensures (c.falls-short.ensures (fit c.from.result)) c.if-falls-short.false)
+    (asked b c.args.lines.now c.args.state.now.draws (get_or items c.loop-h.h-index nobody) c.from.result c.falls_short.result _ c.from.ensures (c.falls_short.ensures (fit c.from.result)) c.if-falls_short.false)
 
 pub returns : goal.returns
 returns c = λ fit.

@@ -5,11 +5,11 @@ use Rattle.settlement.proofs.whole.deliver_by_rules.Goals as goal
 
 pub returns : goal.returns
 returns g c =
-    let done = c.deliver-made.ensures in
+    let done = c.deliver_made.ensures in
     record {
-      goes_on_by_the_rules = on_table c.args.state.now c.deliver-made.new.state c.args.lines.now c.deliver-made.new.lines
-          (meaning g.S.Balances c.args.securities.now) (meaning g.S.Balances c.deliver-made.new.securities)
-          (meaning g.C.Balances c.args.cash.now) (meaning g.C.Balances c.deliver-made.new.cash)
-          whole_call c.deliver-made.result c.made-n.result c.made-n.ensures.lines-made done.goes-on-by-the-rules;
-      memory_is_kept = done.memory-is-kept;
+      goes_on_by_the_rules = on_table c.args.state.now c.deliver_made.new.state c.args.lines.now c.deliver_made.new.lines
+          (meaning g.S.Balances c.args.securities.now) (meaning g.S.Balances c.deliver_made.new.securities)
+          (meaning g.C.Balances c.args.cash.now) (meaning g.C.Balances c.deliver_made.new.cash)
+          whole_call c.deliver_made.result c.made-n.result c.made-n.ensures.lines_made done.goes_on_by_the_rules;
+      memory_is_kept = done.memory_is_kept;
     }

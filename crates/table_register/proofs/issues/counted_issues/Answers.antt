@@ -5,15 +5,15 @@ use Rattle.table_register.specs.Make.{column}
 use Rattle.table_register.proofs.Overs.{over_found, over_none, most_none, most_some, most_is}
 use Rattle.table_register.proofs.issues.counted_issues.Goals as goal
 
-pub returns-in-default : goal.returns-in-default
-returns-in-default c =
+pub returns-in_default : goal.returns-in_default
+returns-in_default c =
     let f : ℕ → ℕ = column c.args.cells.now c.args.accounts c.args.assets in
-    let big : most < f c.loop-asset.asset = most_none _ c.in-default.ensures in
+    let big : most < f c.loop-asset.asset = most_none _ c.in_default.ensures in
     let over = over_found f c.loop-asset.asset c.args.assets c.loop-asset-test.true big in
     let a = c.if-accounts-lt1.false in
-    let b = c.if-accounts-gt-MOST-ACCOUNTS.false in
+    let b = c.if-accounts-gt-MOST_ACCOUNTS.false in
     let d = c.if-assets-lt1.false in
-    let e = c.if-assets-gt-MOST-ASSETS.false in
+    let e = c.if-assets-gt-MOST_ASSETS.false in
     let g = c.if-cells-accounts.false in
     record { fault = grind (arith, nat_tests, over, a, b, d, e, g); issues = tt }
 

@@ -10,7 +10,7 @@ returns-in-None c =
     record {
       each_by_its_form =
           sym (after_nil _) ∙ sym c.loop-rest.invariant.0
-          ∙ collect_stop (vec_items c.loop-rest.found) c.loop-rest.place c.loop-rest.rest.now _ c.step.result.0.now some refl c.step.ensures.part-ends-at-separator c.in-None.ensures.held-value-of-field;
+          ∙ collect_stop (vec_items c.loop-rest.found) c.loop-rest.place c.loop-rest.rest.now _ c.step.result.0.now some refl c.step.ensures.part_ends_at_separator c.in-None.ensures.held_value_of_field;
     }
 
 -- the rest that a turn leaves is shorter by the comma at least
@@ -21,17 +21,17 @@ shorter s t m h e f =
 pub loop-rest-smaller : goal.loop-rest-smaller
 loop-rest-smaller c =
     let some : 0 < length c.loop-rest.rest.now = omega (arith, c.loop-rest-test.ensures, false-eqb) in
-    omega (arith, shorter c.loop-rest.rest.now _ c.step.result.1.now some refl c.step.ensures.rest-begins-there)
+    omega (arith, shorter c.loop-rest.rest.now _ c.step.result.1.now some refl c.step.ensures.rest_begins_there)
 
 pub loop-rest-preserved : goal.loop-rest-preserved
 loop-rest-preserved c =
     let some : 0 < length c.loop-rest.rest.now = omega (arith, c.loop-rest-test.ensures, false-eqb) in
     let fits : SFits w64 c.in-Some.n = search rules in
-    let p : vec_items c.push.new.self ≡ vec_items c.loop-rest.found ++ c.in-Some.n ∷ [] = simp to_z-of_z at c.in-ok-push.ensures.items in (
+    let p : vec_items c.push.new.self ≡ vec_items c.loop-rest.found ++ c.in-Some.n ∷ [] = simp to_z-of_z at c.in_ok-push-in-Some.ensures.items in (
       ap (λ xs. collect xs (c.loop-rest.place + 1) (later 44 c.step.result.1.now)) p
-          ∙ sym (collect_on (vec_items c.loop-rest.found) c.loop-rest.place c.loop-rest.rest.now _ c.step.result.0.now c.step.result.1.now c.in-Some.n some refl c.step.ensures.part-ends-at-separator c.step.ensures.rest-begins-there c.in-Some.ensures.held-value-of-field)
+          ∙ sym (collect_on (vec_items c.loop-rest.found) c.loop-rest.place c.loop-rest.rest.now _ c.step.result.0.now c.step.result.1.now c.in-Some.n some refl c.step.ensures.part_ends_at_separator c.step.ensures.rest_begins_there c.in-Some.ensures.held_value_of_field)
           ∙ c.loop-rest.invariant.0,
-      omega (arith, c.loop-rest.invariant.1, shorter c.loop-rest.rest.now _ c.step.result.1.now some refl c.step.ensures.rest-begins-there),
+      omega (arith, c.loop-rest.invariant.1, shorter c.loop-rest.rest.now _ c.step.result.1.now some refl c.step.ensures.rest_begins_there),
     )
 
 pub returns : goal.returns

@@ -17,7 +17,7 @@ returns-then-not-allows c =
     let i = c.loop-i.i in
     let within : i < length zs = omega arith in
     let fits : SFits w64 (get_or zs i (pos 0)) = search rules in
-    let k : inside (get_or bs i zero) (get_or zs i (pos 0)) ≡ false = sym (simp to_z-of_z at c.if-not-allows.ensures.within-the-bound) in
+    let k : inside (get_or bs i zero) (get_or zs i (pos 0)) ≡ false = sym (simp to_z-of_z at c.if-not-allows.ensures.within_the_bound) in
     record { first_outside = sym (cond-false _ _ _ k) ∙ sym (outside_at (i + 2) i bs zs zero (pos 0) c.loop-i-test.true within) ∙ c.loop-i.invariant }
 
 pub loop-i-preserved : goal.loop-i-preserved
@@ -28,7 +28,7 @@ loop-i-preserved c =
     let i = c.loop-i.i in
     let within : i < length zs = omega arith in
     let fits : SFits w64 (get_or zs i (pos 0)) = search rules in
-    let k : inside (get_or bs i zero) (get_or zs i (pos 0)) ≡ true = sym (simp to_z-of_z at c.if-not-allows.ensures.within-the-bound) in
+    let k : inside (get_or bs i zero) (get_or zs i (pos 0)) ≡ true = sym (simp to_z-of_z at c.if-not-allows.ensures.within_the_bound) in
     let n : i + 1 + 2 ≡ suc (i + 2) = omega arith in
     ap (λ (m : ℕ). outside m (drop (i + 1) bs) (drop (i + 1) zs)) n ∙ sym (cond-true _ _ _ k) ∙ sym (outside_at (i + 2) i bs zs zero (pos 0) c.loop-i-test.true within) ∙ c.loop-i.invariant
 

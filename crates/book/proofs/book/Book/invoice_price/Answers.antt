@@ -9,5 +9,5 @@ nothing price = let e : price * 0 ≡ 0 = omega arith in sym (ap (λ n. (n + 500
 
 pub returns-else-asset-assets : goal.returns-else-asset-assets
 returns-else-asset-assets c =
-    let past : length (vec_items c.args.self.now.assets) ≤ c.args.asset = omega (arith, ap length c.as-slice-assets.ensures.value, c.if-asset-assets.false) in
+    let past : length (vec_items c.args.self.now.assets) ≤ c.args.asset = omega (arith, ap length c.as_slice-assets.ensures.value, c.if-asset-assets.false) in
     record { value = nothing c.args.self.now.terms.price ∙ ap (invoice_of c.args.self.now.terms.price) (sym (get_or_past (vec_items c.args.self.now.assets) c.args.asset no_asset past)) }

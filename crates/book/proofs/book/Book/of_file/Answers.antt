@@ -5,7 +5,7 @@ use Rattle.book.proofs.FileOfBook.{accepted}
 use Rattle.book.proofs.book.Book.of_file.Goals as goal
 
 -- what was read is lawful
-pub invariant-of-result : goal.invariant-of-result
-invariant-of-result c =
-    let b = (draft_of c.in-ok-terms.field-0).book in
-    (or_right (nothing b) (lawful b) (accepted c.args.file.now b c.in-ok-terms.ensures.by-the-definition).0, tt)
+pub invariant_of-result : goal.invariant_of-result
+invariant_of-result c =
+    let b = (draft_of c.in_ok-terms.field-0).book in
+    (or_right (nothing b) (lawful b) (accepted c.args.file.now b c.in_ok-terms.ensures.by_the_definition).0, tt)

@@ -9,9 +9,9 @@ pub returns : goal.returns
 returns c =
     let b = c.args.self.now in
     record {
-      text_of_the_book = in_turn most_bytes (written c.new-page.result) (written c.push-row.new.self) (written c.push-to.new.page) (written c.push-rows.new.page) (written c.push-rows-2.new.page)
+      text_of_the_book = in_turn most_bytes (written c.new-page.result) (written c.push_row.new.self) (written c.push_to.new.page) (written c.push_rows.new.page) (written c.push_rows-2.new.page)
           (terms_line b.terms) (flat_map asset_line (vec_items b.assets)) (flat_map holder_line (vec_items b.holders))
-          c.new-page.ensures.empty c.push-row.ensures.line-is-appended c.push-to.ensures.line-is-appended
-          (c.push-rows.ensures.lines-are-appended ∙ ap (λ xs. take most_bytes (written c.push-to.new.page ++ flat_map asset_line xs)) c.as-slice.ensures.value)
-          (c.push-rows-2.ensures.lines-are-appended ∙ ap (λ xs. take most_bytes (written c.push-rows.new.page ++ flat_map holder_line xs)) c.as-slice-2.ensures.value);
+          c.new-page.ensures.empty c.push_row.ensures.line_is_appended c.push_to.ensures.line_is_appended
+          (c.push_rows.ensures.lines_are_appended ∙ ap (λ xs. take most_bytes (written c.push_to.new.page ++ flat_map asset_line xs)) c.as_slice.ensures.value)
+          (c.push_rows-2.ensures.lines_are_appended ∙ ap (λ xs. take most_bytes (written c.push_rows.new.page ++ flat_map holder_line xs)) c.as_slice-2.ensures.value);
     }

@@ -5,5 +5,5 @@ use Rattle.book.proofs.book.Book.row_with.Goals as goal
 
 pub returns : goal.returns
 returns c =
-    let e = c.find.ensures.value ∙ ap (λ hs. row_among hs c.args.member c.args.number) c.as-slice.ensures.value in
+    let e = c.find.ensures.value ∙ ap (λ hs. row_among hs c.args.member c.args.number) c.as_slice.ensures.value in
     record { value = e; the_one_row_or_none = one_row c.args.self.now c.args.member c.args.number c.find.result e }

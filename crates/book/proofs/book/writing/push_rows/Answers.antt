@@ -15,7 +15,7 @@ loop-x-preserved g c =
     let x = c.x-item.result in
     let f = g.T.Row.row in
     let start = written c.args.page.now in
-    c.push-to.ensures.line-is-appended
+    c.push_to.ensures.line_is_appended
     ∙ take_twice most_bytes start (flat_map f (take i xs)) (f x) (written c.loop-x.page) c.loop-x.invariant
     ∙ ap (λ t. take most_bytes (start ++ t)) (flat_map_more f [] (take i xs) x)
     ∙ ap (λ y. take most_bytes (start ++ flat_map f (take i xs ++ y ∷ []))) c.x-item.is

@@ -4,10 +4,10 @@ use Rattle.book.specs.Format.{size, holder_bounds}
 use Rattle.book.proofs.RecordValues.{holder_row}
 use Rattle.book.proofs.draft.Draft.take_holder.Goals as goal
 
-pub holder-of-requires : goal.holder-of-requires
-holder-of-requires c =
-    let row = holder_row (vec_items c.in-Ok.values) (accepted_good (codes "holder") holder_bounds c.args.line.now _ c.in-Ok.ensures.reads-the-row) in
-    let e = c.as-slice.ensures.value in
+pub holder_of-requires : goal.holder_of-requires
+holder_of-requires c =
+    let row = holder_row (vec_items c.in-Ok.values) (accepted_good (codes "holder") holder_bounds c.args.line.now _ c.in-Ok.ensures.reads_the_row) in
+    let e = c.as_slice.ensures.value in
     record {
       five = ap length e ∙ row.five;
       small = (

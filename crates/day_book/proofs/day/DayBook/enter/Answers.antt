@@ -13,11 +13,11 @@ use Rattle.day_book.proofs.Posts.{fit_asset}
 use Rattle.day_book.proofs.Enters.{pending_push, push_day, push_fit, push_issue, push_covered, push_bounded}
 use Rattle.day_book.proofs.day.DayBook.enter.Goals as goal
 
-pub invariant-of-self : goal.invariant-of-self
-invariant-of-self c =
+pub invariant_of-self : goal.invariant_of-self
+invariant_of-self c =
     let e = c.args.e in
-    let y = c.make-room.new.self in
-    let same = c.make-room.ensures.meaning in
+    let y = c.make_room.new.self in
+    let same = c.make_room.ensures.meaning in
     let es : List Entry = waits y.entries in
     let m = c.issued-more.ensures in
     let ok : fits y.accounts y.assets ((means y).balance e.giver e.asset) e ≡ true = ap (λ (k : Meaning). fits k.accounts k.assets (k.balance e.giver e.asset) e) same ∙ c.requires.fit in
@@ -36,7 +36,7 @@ invariant-of-self c =
         (
           y.size,
           (
-            omega (arith, c.make-room.ensures.bound),
+            omega (arith, c.make_room.ensures.bound),
             (
               length-set y.entries.table y.entries.count e ∙ y.long,
               (
@@ -56,8 +56,8 @@ pub returns : goal.returns
 returns c =
     let e = c.args.e in
     let x = c.args.self.now in
-    let y = c.make-room.new.self in
-    let same = c.make-room.ensures.meaning in
+    let y = c.make_room.new.self in
+    let same = c.make_room.ensures.meaning in
     let es : List Entry = waits y.entries in
     let m = c.issued-more.ensures in
     let ok : fits y.accounts y.assets ((means y).balance e.giver e.asset) e ≡ true = ap (λ (k : Meaning). fits k.accounts k.assets (k.balance e.giver e.asset) e) same ∙ c.requires.fit in
@@ -67,7 +67,7 @@ returns c =
     let pend : pending (set y.entries.table y.entries.count e) 0 (y.entries.count + 1) ≡ es ++ e ∷ [] = pending_push y.entries.table 0 y.entries.count e (omega arith) hl in
     let few : x.entries.count ≤ length x.entries.table = omega (arith, x.long, x.few_entries) in
     let n : length (waits x.entries) ≡ x.entries.count = pending_length x.entries.table x.entries.count few in
-    let emptied : full (waits x.entries) ≡ true → waits y.entries ≡ [] = λ f. ap (λ k. pending y.entries.table 0 k) (c.make-room.ensures.posted (sym n ∙ eqb-true _ _ f)) in
+    let emptied : full (waits x.entries) ≡ true → waits y.entries ≡ [] = λ f. ap (λ k. pending y.entries.table 0 k) (c.make_room.ensures.posted (sym n ∙ eqb-true _ _ f)) in
     let under : full (waits x.entries) ≡ false → x.entries.count < most_entries = λ f. under_most (length (waits x.entries)) x.entries.count n x.few_entries f in
     record {
       counts = (ap (λ (k : Meaning). k.accounts) same, ap (λ (k : Meaning). k.assets) same);
@@ -78,11 +78,11 @@ returns c =
           grind (arith, nat_tests, is, eq);
       entries = ⊎_elim
           (λ (f : full (waits x.entries) ≡ true). pend ∙ ap (λ (l : List Entry). l ++ e ∷ []) (emptied f) ∙ sym (cond-true (full (waits x.entries)) (e ∷ []) (waits x.entries ++ e ∷ []) f))
-          (λ (f : full (waits x.entries) ≡ false). pend ∙ ap (λ (q : Entries). waits q ++ e ∷ []) (c.make-room.ensures.left (under f)).1 ∙ sym (cond-false (full (waits x.entries)) (e ∷ []) (waits x.entries ++ e ∷ []) f))
+          (λ (f : full (waits x.entries) ≡ false). pend ∙ ap (λ (q : Entries). waits q ++ e ∷ []) (c.make_room.ensures.left (under f)).1 ∙ sym (cond-false (full (waits x.entries)) (e ∷ []) (waits x.entries ++ e ∷ []) f))
           (cases_Bool (full (waits x.entries)));
       memory = ⊎_elim
-          (λ (f : full (waits x.entries) ≡ true). subst (λ (b : Bool). MemoryAfter b (means x) x.cells.now y.cells.now) (sym f) (record { tells = posted_tells x y (emptied f) same; later = c.make-room.ensures.later }))
-          (λ (f : full (waits x.entries) ≡ false). subst (λ (b : Bool). MemoryAfter b (means x) x.cells.now y.cells.now) (sym f) (c.make-room.ensures.left (under f)).0)
+          (λ (f : full (waits x.entries) ≡ true). subst (λ (b : Bool). MemoryAfter b (means x) x.cells.now y.cells.now) (sym f) (record { tells = posted_tells x y (emptied f) same; later = c.make_room.ensures.later }))
+          (λ (f : full (waits x.entries) ≡ false). subst (λ (b : Bool). MemoryAfter b (means x) x.cells.now y.cells.now) (sym f) (c.make_room.ensures.left (under f)).0)
           (cases_Bool (full (waits x.entries)));
-      lender = c.make-room.ensures.lender;
+      lender = c.make_room.ensures.lender;
     }

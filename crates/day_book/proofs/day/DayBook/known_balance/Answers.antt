@@ -3,8 +3,8 @@ use Rattle.day_book.specs.Entering.{pending}
 use Rattle.day_book.proofs.Posts.{day_le, day_in}
 use Rattle.day_book.proofs.day.DayBook.known_balance.Goals as goal
 
-pub overflow-cast-result : goal.overflow-cast-result
-overflow-cast-result c =
+pub overflow_cast-result : goal.overflow_cast-result
+overflow_cast-result c =
     let x = c.args.self.now in
     let es = pending x.entries.table 0 x.entries.count in
     let ha = c.requires.known.0 in

@@ -15,8 +15,8 @@ place-to-requires c =
     let ok = oldest_fits x c.requires.some in
     record { known = (fit_taker _ _ _ (oldest x c.requires.some) ok, fit_asset _ _ _ (oldest x c.requires.some) ok) }
 
-pub overflow-add-self : goal.overflow-add-self
-overflow-add-self c =
+pub overflow_add-self : goal.overflow_add-self
+overflow_add-self c =
     let x = c.args.self.now in
     let cells = x.cells.now in
     let e = oldest x c.requires.some in
@@ -33,8 +33,8 @@ overflow-add-self c =
     let within : q < length cells = omega (arith, c.place-to.ensures.inside, x.size) in
     omega (arith, le, held, get_or-set_same cells q (get_or cells q 0 + e.amount) 0 within)
 
-pub invariant-of-self : goal.invariant-of-self
-invariant-of-self c =
+pub invariant_of-self : goal.invariant_of-self
+invariant_of-self c =
     let x = c.args.self.now in
     let cells = x.cells.now in
     let e = oldest x c.requires.some in
@@ -44,16 +44,16 @@ invariant-of-self c =
     let to = c.place-to.ensures.place in
     let cells' : List ℕ = set cells q (get_or cells q 0 + e.amount) in
     let same = credit_applies cells x.accounts x.assets e rest fit x.size q to c.requires.credits in
-    let moved_up : waits c.drop-first.new.self ≡ rest = c.drop-first.ensures.rest in (
+    let moved_up : waits c.drop_first.new.self ≡ rest = c.drop_first.ensures.rest in (
       x.few_accounts,
       (
         x.few_assets,
         (
           size_set _ cells q (get_or cells q 0 + e.amount) x.size,
           (
-            omega (arith, c.drop-first.ensures.count, x.few_entries),
+            omega (arith, c.drop_first.ensures.count, x.few_entries),
             (
-              c.drop-first.ensures.long ∙ x.long,
+              c.drop_first.ensures.long ∙ x.long,
               (
                 ap (all_fit x.accounts x.assets (cell cells' x.accounts x.assets)) moved_up ∙ credit_fit cells x.accounts x.assets e rest fit x.size q to c.requires.credits,
                 (
@@ -77,12 +77,12 @@ returns c =
     let q = c.place-to.result in
     let cells' : List ℕ = set cells q (get_or cells q 0 + e.amount) in
     let same = credit_applies cells x.accounts x.assets e rest fit x.size q c.place-to.ensures.place c.requires.credits in
-    let moved_up : waits c.drop-first.new.self ≡ rest = c.drop-first.ensures.rest in
-    let back : (a s : ℕ) → apply_all (waits c.drop-first.new.self) a s (cell cells' x.accounts x.assets a s) ≡ apply_all (waits x.entries) a s (cell cells x.accounts x.assets a s) =
+    let moved_up : waits c.drop_first.new.self ≡ rest = c.drop_first.ensures.rest in
+    let back : (a s : ℕ) → apply_all (waits c.drop_first.new.self) a s (cell cells' x.accounts x.assets a s) ≡ apply_all (waits x.entries) a s (cell cells x.accounts x.assets a s) =
     λ a s. ap (λ es. apply_all es a s (cell cells' x.accounts x.assets a s)) moved_up ∙ same a s ∙ ap (λ es. apply_all es a s (cell cells x.accounts x.assets a s)) (sym (oldest_first x c.requires.some)) in
     record {
-      meaning = same_meaning _ _ refl refl (same_day cells cells' x.accounts x.assets (waits x.entries) (waits c.drop-first.new.self) back) (λ s. refl);
+      meaning = same_meaning _ _ refl refl (same_day cells cells' x.accounts x.assets (waits x.entries) (waits c.drop_first.new.self) back) (λ s. refl);
       later = later_set _ cells q (get_or cells q 0 + e.amount) c.place-to.ensures.inside;
-      left = c.drop-first.ensures.count;
+      left = c.drop_first.ensures.count;
       lender = refl;
     }

@@ -15,16 +15,16 @@ place-from-requires c =
     let ok = oldest_fits x c.requires.some in
     record { known = (fit_giver _ _ _ (oldest x c.requires.some) ok c.requires.moves, fit_asset _ _ _ (oldest x c.requires.some) ok) }
 
-pub overflow-sub-self : goal.overflow-sub-self
-overflow-sub-self c =
+pub overflow_sub-self : goal.overflow_sub-self
+overflow_sub-self c =
     let x = c.args.self.now in
     let e = oldest x c.requires.some in
     let ok = oldest_fits x c.requires.some in
     let held = held_in x.cells.now x.accounts x.assets e.giver e.asset c.place-from.result x.size (fit_giver _ _ _ e ok c.requires.moves) (fit_asset _ _ _ e ok) c.place-from.ensures.place in
     omega (arith, fit_amount _ _ _ e ok c.requires.moves, held)
 
-pub invariant-of-self : goal.invariant-of-self
-invariant-of-self c =
+pub invariant_of-self : goal.invariant_of-self
+invariant_of-self c =
     let x = c.args.self.now in
     let cells = x.cells.now in
     let table = x.entries.table in

@@ -8,8 +8,8 @@ use Rattle.day_book.specs.DayTable.{day_cell, DayCovered, waits}
 use Rattle.day_book.proofs.Shifts.{none_fit, no_entries, no_entries_covered}
 use Rattle.day_book.proofs.day.DayBook.take.Goals as goal
 
-pub invariant-of-self : goal.invariant-of-self
-invariant-of-self c =
+pub invariant_of-self : goal.invariant_of-self
+invariant_of-self c =
     let x = c.args.self.now in
     let cells = x.cells.now in
     let n = c.args.accounts in

@@ -6,17 +6,17 @@ use Rattle.state.specs.Seeing.{seen}
 use Rattle.engine.proofs.Dispatched.{allowed, by_its_part, first_ends}
 use Rattle.engine.proofs.expiry.Expiry.do_call.Goals as goal
 
-pub returns-in-default-Credit : goal.returns-in-default-Credit
-returns-in-default-Credit g c =
+pub returns-in_default-Credit : goal.returns-in_default-Credit
+returns-in_default-Credit g c =
     let s : Meaning = (meaning g.S.Balances c.args.securities.now) in
     let m : Meaning = (meaning g.C.Balances c.args.cash.now) in
     let now' : allowed c.args.self.now.state.session c.args.call ≡ true = search rules in
     record {
       goes_on_by_the_rules = λ o h st. by_its_part o h (seen c.args.self.now.state c.args.lines.now s m) st c.args.call
-          (call.Credit c.in-default-Credit.side c.in-default-Credit.account c.in-default-Credit.asset c.in-default-Credit.amount) c.credit.result
-          (seen c.args.self.now.state c.args.lines.now (meaning g.S.Balances c.credit.new.securities) (meaning g.C.Balances c.credit.new.cash)) c.in-default-Credit.is-1 now'
-          (c.credit.ensures.goes-on-by-the-rules c.args.self.now.state c.args.lines.now);
-      memory_is_kept = c.credit.ensures.memory-is-kept;
+          (call.Credit c.in_default-Credit.side c.in_default-Credit.account c.in_default-Credit.asset c.in_default-Credit.amount) c.credit.result
+          (seen c.args.self.now.state c.args.lines.now (meaning g.S.Balances c.credit.new.securities) (meaning g.C.Balances c.credit.new.cash)) c.in_default-Credit.is-1 now'
+          (c.credit.ensures.goes_on_by_the_rules c.args.self.now.state c.args.lines.now);
+      memory_is_kept = c.credit.ensures.memory_is_kept;
     }
 
 pub returns-in-MembersNotices-Notice : goal.returns-in-MembersNotices-Notice
@@ -28,7 +28,7 @@ returns-in-MembersNotices-Notice g c =
       goes_on_by_the_rules = λ o h st. by_its_part o h (seen c.args.self.now.state c.args.lines.now s m) st c.args.call
           (call.Notice c.in-MembersNotices-Notice.speaker c.in-MembersNotices-Notice.member c.in-MembersNotices-Notice.number c.in-MembersNotices-Notice.asset c.in-MembersNotices-Notice.contracts) c.notice.result
           (seen c.notice.new.state c.args.lines.now s m) c.in-MembersNotices-Notice.is-1 now'
-          (c.notice.ensures.goes-on-by-the-rules c.args.lines.now s m);
+          (c.notice.ensures.goes_on_by_the_rules c.args.lines.now s m);
       memory_is_kept = (refl, refl);
     }
 
@@ -45,9 +45,9 @@ returns-in-ClearingNotices-End g c =
     let now' : allowed c.args.self.now.state.session c.args.call ≡ true = search rules in
     record {
       goes_on_by_the_rules = λ o h st. by_its_part o h (seen c.args.self.now.state c.args.lines.now s m) st c.args.call
-          (call.End) c.end-notices.result
-          (seen c.end-notices.new.state c.args.lines.now s m) c.in-ClearingNotices-End.is-1 now'
-          (c.end-notices.ensures.goes-on-by-the-rules c.args.lines.now s m c.in-ClearingNotices-End.is-0);
+          (call.End) c.end_notices.result
+          (seen c.end_notices.new.state c.args.lines.now s m) c.in-ClearingNotices-End.is-1 now'
+          (c.end_notices.ensures.goes_on_by_the_rules c.args.lines.now s m c.in-ClearingNotices-End.is-0);
       memory_is_kept = (refl, refl);
     }
 
@@ -58,9 +58,9 @@ returns-in-Pairing-Pair g c =
     let now' : allowed c.args.self.now.state.session c.args.call ≡ true = search rules in
     record {
       goes_on_by_the_rules = λ o h st. by_its_part o h (seen c.args.self.now.state c.args.lines.now s m) st c.args.call
-          (call.Pair) c.pair-book.result
-          (seen c.pair-book.new.state c.pair-book.new.lines s m) c.in-Pairing-Pair.is-1 now'
-          (c.pair-book.ensures.goes-on-by-the-rules s m);
+          (call.Pair) c.pair_book.result
+          (seen c.pair_book.new.state c.pair_book.new.lines s m) c.in-Pairing-Pair.is-1 now'
+          (c.pair_book.ensures.goes_on_by_the_rules s m);
       memory_is_kept = (refl, refl);
     }
 
@@ -71,10 +71,10 @@ returns-in-WholeDelivery-Take g c =
     let now' : allowed c.args.self.now.state.session c.args.call ≡ true = search rules in
     record {
       goes_on_by_the_rules = λ o h st. by_its_part o h (seen c.args.self.now.state c.args.lines.now s m) st c.args.call
-          (call.Take c.in-WholeDelivery-Take.member c.in-WholeDelivery-Take.number c.in-WholeDelivery-Take.asset) c.take-contracts.result
-          (seen c.args.self.now.state c.take-contracts.new.lines (meaning g.S.Balances c.take-contracts.new.securities) m) c.in-WholeDelivery-Take.is-1 now'
-          (c.take-contracts.ensures.goes-on-by-the-rules m);
-      memory_is_kept = (c.take-contracts.ensures.memory-is-kept, refl);
+          (call.Take c.in-WholeDelivery-Take.member c.in-WholeDelivery-Take.number c.in-WholeDelivery-Take.asset) c.take_contracts.result
+          (seen c.args.self.now.state c.take_contracts.new.lines (meaning g.S.Balances c.take_contracts.new.securities) m) c.in-WholeDelivery-Take.is-1 now'
+          (c.take_contracts.ensures.goes_on_by_the_rules m);
+      memory_is_kept = (c.take_contracts.ensures.memory_is_kept, refl);
     }
 
 pub returns-in-WholeDelivery-Draw : goal.returns-in-WholeDelivery-Draw
@@ -84,10 +84,10 @@ returns-in-WholeDelivery-Draw g c =
     let now' : allowed c.args.self.now.state.session c.args.call ≡ true = search rules in
     record {
       goes_on_by_the_rules = λ o h st. by_its_part o h (seen c.args.self.now.state c.args.lines.now s m) st c.args.call
-          (call.Draw c.in-WholeDelivery-Draw.agent) c.draw-debit.result
-          (seen c.draw-debit.new.state c.args.lines.now s (meaning g.C.Balances c.draw-debit.new.cash)) c.in-WholeDelivery-Draw.is-1 now'
-          (c.draw-debit.ensures.goes-on-by-the-rules s);
-      memory_is_kept = (refl, c.draw-debit.ensures.memory-is-kept);
+          (call.Draw c.in-WholeDelivery-Draw.agent) c.draw_debit.result
+          (seen c.draw_debit.new.state c.args.lines.now s (meaning g.C.Balances c.draw_debit.new.cash)) c.in-WholeDelivery-Draw.is-1 now'
+          (c.draw_debit.ensures.goes_on_by_the_rules s);
+      memory_is_kept = (refl, c.draw_debit.ensures.memory_is_kept);
     }
 
 pub returns-in-WholeDelivery-SettleWhole : goal.returns-in-WholeDelivery-SettleWhole
@@ -97,10 +97,10 @@ returns-in-WholeDelivery-SettleWhole g c =
     let now' : allowed c.args.self.now.state.session c.args.call ≡ true = search rules in
     record {
       goes_on_by_the_rules = λ o h st. by_its_part o h (seen c.args.self.now.state c.args.lines.now s m) st c.args.call
-          (call.SettleWhole) c.deliver-whole.result
-          (seen c.deliver-whole.new.state c.deliver-whole.new.lines (meaning g.S.Balances c.deliver-whole.new.securities) (meaning g.C.Balances c.deliver-whole.new.cash)) c.in-WholeDelivery-SettleWhole.is-1 now'
-          c.deliver-whole.ensures.goes-on-by-the-rules;
-      memory_is_kept = c.deliver-whole.ensures.memory-is-kept;
+          (call.SettleWhole) c.deliver_whole.result
+          (seen c.deliver_whole.new.state c.deliver_whole.new.lines (meaning g.S.Balances c.deliver_whole.new.securities) (meaning g.C.Balances c.deliver_whole.new.cash)) c.in-WholeDelivery-SettleWhole.is-1 now'
+          c.deliver_whole.ensures.goes_on_by_the_rules;
+      memory_is_kept = c.deliver_whole.ensures.memory_is_kept;
     }
 
 pub returns-in-WholeDelivery-End : goal.returns-in-WholeDelivery-End
@@ -110,10 +110,10 @@ returns-in-WholeDelivery-End g c =
     let now' : allowed c.args.self.now.state.session c.args.call ≡ true = search rules in
     record {
       goes_on_by_the_rules = λ o h st. by_its_part o h (seen c.args.self.now.state c.args.lines.now s m) st c.args.call
-          (call.End) c.return-draws.result
-          (seen c.return-draws.new.state c.args.lines.now s (meaning g.C.Balances c.return-draws.new.cash)) c.in-WholeDelivery-End.is-1 now'
-          (c.return-draws.ensures.goes-on-by-the-rules c.args.lines.now s c.in-WholeDelivery-End.is-0);
-      memory_is_kept = (refl, c.return-draws.ensures.memory-is-kept);
+          (call.End) c.return_draws.result
+          (seen c.return_draws.new.state c.args.lines.now s (meaning g.C.Balances c.return_draws.new.cash)) c.in-WholeDelivery-End.is-1 now'
+          (c.return_draws.ensures.goes_on_by_the_rules c.args.lines.now s c.in-WholeDelivery-End.is-0);
+      memory_is_kept = (refl, c.return_draws.ensures.memory_is_kept);
     }
 
 pub returns-in-PartialDelivery-SettleLine : goal.returns-in-PartialDelivery-SettleLine
@@ -123,10 +123,10 @@ returns-in-PartialDelivery-SettleLine g c =
     let now' : allowed c.args.self.now.state.session c.args.call ≡ true = search rules in
     record {
       goes_on_by_the_rules = λ o h st. by_its_part o h (seen c.args.self.now.state c.args.lines.now s m) st c.args.call
-          (call.SettleLine c.in-PartialDelivery-SettleLine.line) c.deliver-line.result
-          (seen c.args.self.now.state c.deliver-line.new.lines (meaning g.S.Balances c.deliver-line.new.securities) (meaning g.C.Balances c.deliver-line.new.cash)) c.in-PartialDelivery-SettleLine.is-1 now'
-          c.deliver-line.ensures.goes-on-by-the-rules;
-      memory_is_kept = c.deliver-line.ensures.memory-is-kept;
+          (call.SettleLine c.in-PartialDelivery-SettleLine.line) c.deliver_line.result
+          (seen c.args.self.now.state c.deliver_line.new.lines (meaning g.S.Balances c.deliver_line.new.securities) (meaning g.C.Balances c.deliver_line.new.cash)) c.in-PartialDelivery-SettleLine.is-1 now'
+          c.deliver_line.ensures.goes_on_by_the_rules;
+      memory_is_kept = c.deliver_line.ensures.memory_is_kept;
     }
 
 pub returns-in-PartialDelivery-Close : goal.returns-in-PartialDelivery-Close
@@ -138,6 +138,6 @@ returns-in-PartialDelivery-Close g c =
       goes_on_by_the_rules = λ o h st. by_its_part o h (seen c.args.self.now.state c.args.lines.now s m) st c.args.call
           (call.Close) c.close.result
           (seen c.close.new.state c.close.new.lines (meaning g.S.Balances c.close.new.securities) m) c.in-PartialDelivery-Close.is-1 now'
-          (c.close.ensures.goes-on-by-the-rules m);
-      memory_is_kept = (c.close.ensures.memory-is-kept, refl);
+          (c.close.ensures.goes_on_by_the_rules m);
+      memory_is_kept = (c.close.ensures.memory_is_kept, refl);
     }

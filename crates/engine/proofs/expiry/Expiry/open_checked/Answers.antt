@@ -9,5 +9,5 @@ use Rattle.engine.proofs.expiry.Expiry.open_checked.Goals as goal
 pub returns : goal.returns
 returns g c =
     let o = opening (contents c.args.book) c.args.lines.now (meaning g.S.Balances c.args.securities.now) (meaning g.C.Balances c.args.cash.now) in
-    let none = sym c.refusal.ensures ∙ c.in-default.is in
+    let none = sym c.refusal.ensures ∙ c.in_default.is in
     record { opens_or_refuses = (none, begun o c.new.result.state (book_sound c.args.book (some_holders o none)) none c.new.ensures) }

@@ -6,10 +6,10 @@ use Rattle.engine.proofs.expiry.Expiry.play_all.Goals as goal
 
 pub returns : goal.returns
 returns g c = record {
-  law_over_the_day = c.run.ensures.law-over-the-run
+  law_over_the_day = c.run.ensures.law_over_the_run
       (opening (contents c.args.book) c.args.lines.now (meaning g.S.Balances c.args.securities.now) (meaning g.C.Balances c.args.cash.now)) []
-      c.in-ok-expiry.ensures.opens-or-refuses.1;
+      c.in_ok-expiry.ensures.opens_or_refuses.1;
   refused_moves_nothing = tt;
-  calls_stay = c.run.ensures.calls-stay;
-  memory_is_kept = c.run.ensures.memory-is-kept;
+  calls_stay = c.run.ensures.calls_stay;
+  memory_is_kept = c.run.ensures.memory_is_kept;
 }

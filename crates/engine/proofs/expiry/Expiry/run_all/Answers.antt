@@ -18,10 +18,10 @@ loop-entry-preserved g c =
     let then : Seen = seen c.apply-entry.new.self.state c.apply-entry.new.lines (meaning g.S.Balances c.apply-entry.new.securities) (meaning g.C.Balances c.apply-entry.new.cash) in
     let inv = c.loop-entry.invariant in (
       (λ o h st. subst (λ (x : List histories.Entry). Stands o x then) (sym (entered_next es c.loop-entry.entry-index e h lt))
-          (c.apply-entry.ensures.goes-on-by-the-rules o (entered (take c.loop-entry.entry-index es) h) (inv.0 o h st))),
+          (c.apply-entry.ensures.goes_on_by_the_rules o (entered (take c.loop-entry.entry-index es) h) (inv.0 o h st))),
       calls_kept es c.loop-entry.entry-index e refl ∙ inv.1,
-      c.apply-entry.ensures.memory-is-kept.0 ∙ inv.2,
-      c.apply-entry.ensures.memory-is-kept.1 ∙ inv.3,
+      c.apply-entry.ensures.memory_is_kept.0 ∙ inv.2,
+      c.apply-entry.ensures.memory_is_kept.1 ∙ inv.3,
     )
 
 pub returns : goal.returns

@@ -15,7 +15,7 @@ pub returns-in-Some : goal.returns-in-Some
 returns-in-Some g c =
     let n : Seen = seen c.args.self.now c.args.lines.now (meaning g.S.Balances c.args.securities.now) (meaning g.C.Balances c.args.cash.now) in
     let call : Call = notice_call c.args.speaker c.args.member c.args.number c.args.asset c.args.contracts in
-    let small = sym c.too-small.ensures ∙ c.in-Some.is in
+    let small = sym c.too_small.ensures ∙ c.in-Some.is in
     record {
       goes_on_by_the_rules = small_goes n call c.in-Some.fault n small;
       too_small_is_refused_first = small_first n call c.in-Some.fault small;
@@ -36,8 +36,8 @@ returns-in-Ok g c =
     record {
       goes_on_by_the_rules = λ o h st. subst (λ (x : List SellerLots). Stands o ((call, Ok Done) ∷ h) (seen (with_records c.args.self.now x) c.args.lines.now s m)) (sym c.note.ensures.noted)
           (notice_accepted o h c.args.self.now c.args.lines.now s m c.args.speaker c.args.member c.args.number c.args.asset c.args.contracts c.in-Ok.place
-          (sym c.notice-place.ensures.place-or-cause ∙ c.in-Ok.is) c.note.ensures.there st);
-      too_small_is_refused_first = enough_first n call (Ok Done) (seen (with_records c.args.self.now c.note.new.records) c.args.lines.now s m) (sym c.too-small.ensures ∙ c.in-default.is);
+          (sym c.notice_place.ensures.place_or_cause ∙ c.in-Ok.is) c.note.ensures.there st);
+      too_small_is_refused_first = enough_first n call (Ok Done) (seen (with_records c.args.self.now c.note.new.records) c.args.lines.now s m) (sym c.too_small.ensures ∙ c.in_default.is);
       memory_is_kept = (refl, refl);
     }
 
@@ -49,7 +49,7 @@ returns-in-Err g c =
     let n : Seen = seen c.args.self.now c.args.lines.now s m in
     record {
       goes_on_by_the_rules = λ o h st. notice_refused o h c.args.self.now c.args.lines.now s m c.args.speaker c.args.member c.args.number c.args.asset c.args.contracts c.in-Err.cause
-          (sym c.notice-place.ensures.place-or-cause ∙ c.in-Err.is) st;
-      too_small_is_refused_first = enough_first n call (Err (record { cause = c.in-Err.cause; call = call })) n (sym c.too-small.ensures ∙ c.in-default.is);
+          (sym c.notice_place.ensures.place_or_cause ∙ c.in-Err.is) st;
+      too_small_is_refused_first = enough_first n call (Err (record { cause = c.in-Err.cause; call = call })) n (sym c.too_small.ensures ∙ c.in_default.is);
       memory_is_kept = (refl, refl);
     }

@@ -20,8 +20,8 @@ returns-in-Some-fault c =
     record {
       place_or_cause = sym (ap (λ (x : Option Cause). place_or x row)
           (stops_at_seller b c.args.self.now.session (record_of c.args.self.now.lots row).notified c.args.speaker c.args.member c.args.number c.args.asset c.args.contracts
-          (sym c.takes-notices.ensures ∙ c.if-not-takes-notices.false) seller.3
-          ∙ (sym same ∙ (sym c.notice-fault-fault.ensures ∙ c.in-Some-fault.is))));
+          (sym c.takes_notices.ensures ∙ c.if-not-takes_notices.false) seller.3
+          ∙ (sym same ∙ (sym c.notice_fault-fault.ensures ∙ c.in-Some-fault.is))));
       fits = tt;
     }
 
@@ -32,12 +32,12 @@ returns-in-None-fault c =
     let place : ℕ = c.in-Some.place in
     let seller = c.in-Some.ensures in
     let same = by_row b c.holders.result.now c.assets.result.now c.args.self.now.lots row place c.args.self.now.session c.args.speaker c.args.asset c.args.contracts c.holders.ensures.value c.assets.ensures.value seller.0 in
-    let none = sym same ∙ (sym c.notice-fault-fault.ensures ∙ c.in-None-fault.is) in
+    let none = sym same ∙ (sym c.notice_fault-fault.ensures ∙ c.in-None-fault.is) in
     let at : row - 1 ≡ place = omega (arith, seller.0) in
     record {
       place_or_cause = sym (ap (λ (x : Option Cause). place_or x row)
           (stops_at_seller b c.args.self.now.session (record_of c.args.self.now.lots row).notified c.args.speaker c.args.member c.args.number c.args.asset c.args.contracts
-          (sym c.takes-notices.ensures ∙ c.if-not-takes-notices.false) seller.3 ∙ none)
+          (sym c.takes_notices.ensures ∙ c.if-not-takes_notices.false) seller.3 ∙ none)
           ∙ ok_at (row - 1) place at);
       fits = fits_in c.args.self.now.book c.args.self.now.lots place c.args.self.now.session c.args.speaker c.args.asset c.args.contracts seller.1 seller.2
           (subst (λ (r : ℕ). first_failed (fault_checks c.args.self.now.session c.args.speaker (holder b r) (length b.assets) (record_of c.args.self.now.lots r).notified c.args.asset c.args.contracts) ≡ None) seller.0 none);

@@ -10,15 +10,15 @@ place-place-requires c =
     let told = credit_told (means c.args.self.now) c.args.account c.args.asset c.args.amount c.requires.accepted in
     record { known = (told.account_known, told.asset_known) }
 
-pub overflow-add-self : goal.overflow-add-self
-overflow-add-self c =
+pub overflow_add-self : goal.overflow_add-self
+overflow_add-self c =
     let x = c.args.self.now in
     let told = credit_told (means x) c.args.account c.args.asset c.args.amount c.requires.accepted in
     let le = held_le x.cells.now x.accounts x.assets c.args.account c.args.asset c.place-place.result x.size told.account_known told.asset_known c.place-place.ensures.place x.issues x.covered in
     omega (arith, le, told.fits, issued_in x.issues x.assets c.args.asset told.asset_known)
 
-pub invariant-of-self : goal.invariant-of-self
-invariant-of-self c =
+pub invariant_of-self : goal.invariant_of-self
+invariant_of-self c =
     let x = c.args.self.now in
     let told = credit_told (means x) c.args.account c.args.asset c.args.amount c.requires.accepted in
     let at = c.place-place.ensures.place in

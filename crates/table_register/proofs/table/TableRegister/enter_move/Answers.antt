@@ -14,14 +14,14 @@ place-to-requires c =
     let told = move_told (means c.args.self.now) c.args.giver c.args.taker c.args.asset c.args.amount c.requires.accepted in
     record { known = (told.taker_known, told.asset_known) }
 
-pub overflow-sub-self : goal.overflow-sub-self
-overflow-sub-self c =
+pub overflow_sub-self : goal.overflow_sub-self
+overflow_sub-self c =
     let x = c.args.self.now in
     let told = move_told (means x) c.args.giver c.args.taker c.args.asset c.args.amount c.requires.accepted in
     omega (arith, told.enough, held_in x.cells.now x.accounts x.assets c.args.giver c.args.asset c.place-from.result x.size told.giver_known told.asset_known c.place-from.ensures.place)
 
-pub invariant-of-self : goal.invariant-of-self
-invariant-of-self c =
+pub invariant_of-self : goal.invariant_of-self
+invariant_of-self c =
     let x = c.args.self.now in
     let told = move_told (means x) c.args.giver c.args.taker c.args.asset c.args.amount c.requires.accepted in (
       x.few_accounts,
@@ -37,16 +37,16 @@ invariant-of-self c =
       ),
     )
 
-pub overflow-add-self : goal.overflow-add-self
-overflow-add-self c =
+pub overflow_add-self : goal.overflow_add-self
+overflow_add-self c =
     let x = c.args.self.now in
     let told = move_told (means x) c.args.giver c.args.taker c.args.asset c.args.amount c.requires.accepted in
     let enough : c.args.amount ≤ get_or x.cells.now c.place-from.result 0 = omega (arith, told.enough, held_in x.cells.now x.accounts x.assets c.args.giver c.args.asset c.place-from.result x.size told.giver_known told.asset_known c.place-from.ensures.place) in
     let le = taken_le x.cells.now x.accounts x.assets c.args.giver c.args.taker c.args.asset c.place-from.result c.place-to.result c.args.amount x.size told.giver_known told.taker_known told.asset_known c.place-from.ensures.place c.place-to.ensures.place told.apart x.issues enough x.covered in
     omega (arith, le, x.bounded c.args.asset, issued_in x.issues x.assets c.args.asset told.asset_known)
 
-pub invariant-of-self-2 : goal.invariant-of-self-2
-invariant-of-self-2 c =
+pub invariant_of-self-2 : goal.invariant_of-self-2
+invariant_of-self-2 c =
     let x = c.args.self.now in
     let told = move_told (means x) c.args.giver c.args.taker c.args.asset c.args.amount c.requires.accepted in
     let enough : c.args.amount ≤ get_or x.cells.now c.place-from.result 0 = omega (arith, told.enough, held_in x.cells.now x.accounts x.assets c.args.giver c.args.asset c.place-from.result x.size told.giver_known told.asset_known c.place-from.ensures.place) in (

@@ -3,8 +3,8 @@ use Rattle.register.proofs.Meanings.{same_meaning}
 use Rattle.table_register.proofs.Makes.{made_shape, made_covered, made_bounded, made_issues}
 use Rattle.table_register.proofs.table.TableRegister.take.Goals as goal
 
-pub invariant-of-self : goal.invariant-of-self
-invariant-of-self c =
+pub invariant_of-self : goal.invariant_of-self
+invariant_of-self c =
     let cells = c.args.self.now.cells.now in
     let n = c.args.accounts in
     let m = c.args.assets in

@@ -14,7 +14,7 @@ returns t c =
       appended = c.push.ensures.appended ∙
           elim c.if-n-ge10.branch [
             | then-n-ge10 w ↦
-                take_twice most_bytes start (decimal (n / 10)) last (written c.if-n-ge10.self) (ap written w.self-is ∙ w.push-digits.ensures.appended)
+                take_twice most_bytes start (decimal (n / 10)) last (written c.if-n-ge10.self) (ap written w.self-is ∙ w.push_digits.ensures.appended)
                 ∙ ap (λ t. take most_bytes (start ++ t)) (sym (decimal_step n w.if-n-ge10.true (omega (arith, c.ranges.n))))
             | else-n-ge10 w ↦
                 let small : n % 10 ≡ n = omega (arith, w.if-n-ge10.false) in

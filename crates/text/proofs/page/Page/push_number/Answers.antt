@@ -13,11 +13,11 @@ pub returns-then-n-lt0 : goal.returns-then-n-lt0
 returns-then-n-lt0 c =
     let start = written c.args.self.now in
     let fits : SFits w64 c.args.n = search rules in
-    let size : c.unsigned-abs.result ≡ nat_abs c.args.n = simp to_z-of_z at c.unsigned-abs.ensures.value in
+    let size : c.unsigned_abs.result ≡ nat_abs c.args.n = simp to_z-of_z at c.unsigned_abs.ensures.value in
     record {
       appended =
-          c.push-digits.ensures.appended
-          ∙ take_twice most_bytes start (45 ∷ []) (decimal c.unsigned-abs.result) (written c.push.new.self) c.push.ensures.appended
+          c.push_digits.ensures.appended
+          ∙ take_twice most_bytes start (45 ∷ []) (decimal c.unsigned_abs.result) (written c.push.new.self) c.push.ensures.appended
           ∙ ap (λ k. take most_bytes (start ++ 45 ∷ decimal k)) size
           ∙ ap (λ t. take most_bytes (start ++ t)) (below_0 c.args.n (omega (arith, ints)));
     }

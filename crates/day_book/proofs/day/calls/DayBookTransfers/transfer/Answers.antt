@@ -6,10 +6,10 @@ use Rattle.day_book.specs.DayTable.{waits, MemoryAfter}
 use Rattle.day_book.specs.DayMeaning.{means}
 use Rattle.day_book.proofs.day.calls.DayBookTransfers.transfer.Goals as goal
 
-pub returns-in-err-check-transfer : goal.returns-in-err-check-transfer
-returns-in-err-check-transfer c =
+pub returns-in_err-check_transfer : goal.returns-in_err-check_transfer
+returns-in_err-check_transfer c =
     let x = c.args.self.now in
-    let told = c.in-err-check-transfer.ensures.answers-by-the-rules in
+    let told = c.in_err-check_transfer.ensures.answers_by_the_rules in
     let refused = transfer_refused (means x) c.args.giver c.args.taker c.args.asset c.args.amount in
     record {
       answers_by_the_rules = search rules;

@@ -4,9 +4,9 @@ use Rattle.table_register.specs.TableMeaning.{means}
 use Rattle.register.proofs.Meanings.{refused_keeps}
 use Rattle.table_register.proofs.table.calls.TableRegisterTransfers.transfer.Goals as goal
 
-pub returns-in-err-check-transfer : goal.returns-in-err-check-transfer
-returns-in-err-check-transfer c =
-    let told = c.in-err-check-transfer.ensures.answers-by-the-rules in
+pub returns-in_err-check_transfer : goal.returns-in_err-check_transfer
+returns-in_err-check_transfer c =
+    let told = c.in_err-check_transfer.ensures.answers_by_the_rules in
     let refused = transfer_refused (means c.args.self.now) c.args.giver c.args.taker c.args.asset c.args.amount in
     record {
       answers_by_the_rules = search rules;
