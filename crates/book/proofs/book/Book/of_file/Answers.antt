@@ -8,4 +8,4 @@ use Rattle.book.proofs.book.Book.of_file.Goals as goal
 pub invariant_of-result : goal.invariant_of-result
 invariant_of-result c =
     let b = (draft_of c.in_ok-terms.field-0).book in
-    (or_right (nothing b) (lawful b) (accepted c.args.file.now b c.in_ok-terms.ensures.by_the_definition).0, tt)
+    record { one_that_exists = or_right (nothing b) (lawful b) (accepted c.args.file.now b c.in_ok-terms.ensures.by_the_definition).0 }
