@@ -6,7 +6,7 @@ use book::book::Book;
 use book::fault::ReadFault;
 use listing::print_lines;
 use pairing::line::Line;
-use pairs::book::pair_without_notices;
+use pairs::whole_book::pair_without_notices;
 use std::io::Read;
 use text::page::MOST_BYTES;
 

@@ -8,7 +8,7 @@ ghost use Rattle.state.specs.Following.{Follows};
 ghost use Rattle.state.specs.Calls.{end_call};
 ghost use Rattle.notices.specs.NextSession.{notices_ended};
 
-use pairs::book::hand_out;
+use pairs::whole_book::hand_out;
 use rules::answer::Answer;
 use rules::fault::{Cause, Part};
 use rules::session::Session;

@@ -9,7 +9,7 @@ ghost use Rattle.notices.specs.NextSession.{book_paired};
 use delivery::paying::AGENT_PLACES;
 use delivery::sums::nets;
 use pairing::line::Line;
-use pairs::book::pair;
+use pairs::whole_book::pair;
 use rules::answer::Answer;
 use rules::fault::{Cause, Part};
 use rules::session::Session;

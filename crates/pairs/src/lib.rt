@@ -1,7 +1,6 @@
 // Pairs a book by the rule, and writes the lines.
 #![tactic(auto)]
 
-pub mod book;
 mod deliverables;
 pub mod fault;
 mod handing;
@@ -9,3 +8,4 @@ mod lines;
 pub mod lots;
 mod rows;
 mod search;
+pub mod whole_book;

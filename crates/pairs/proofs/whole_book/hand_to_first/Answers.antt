@@ -4,7 +4,7 @@ use Rattle.book.proofs.BookKept.{book_sound}
 use Rattle.pairing.proofs.FirstDeliverable.{first_deliverable_in}
 use Rattle.pairs.proofs.BookBounds.{few_of_each}
 use Rattle.pairs.proofs.Outcomes.{handed_out}
-use Rattle.pairs.proofs.book.hand_to_first.Goals as goal
+use Rattle.pairs.proofs.whole_book.hand_to_first.Goals as goal
 
 pub hand_rows-requires : goal.hand_rows-requires
 hand_rows-requires c =

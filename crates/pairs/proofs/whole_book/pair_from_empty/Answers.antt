@@ -8,7 +8,7 @@ use Rattle.pairing.proofs.LinesLawful.{lines_lawful, all_notified}
 use Rattle.pairs.specs.Records.{lots_in}
 use Rattle.pairs.proofs.BookBounds.{few_of_each}
 use Rattle.pairs.proofs.Outcomes.{of_lines, nothing_held, lines_unnotified, same_answer, same_leaves}
-use Rattle.pairs.proofs.book.pair_from_empty.Goals as goal
+use Rattle.pairs.proofs.whole_book.pair_from_empty.Goals as goal
 
 pub returns : goal.returns
 returns c =

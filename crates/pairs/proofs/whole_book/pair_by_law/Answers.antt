@@ -6,7 +6,7 @@ use Rattle.pairing.specs.Laws.{Lawful}
 use Rattle.pairing.proofs.LinesLawful.{lines_lawful}
 use Rattle.pairs.specs.Records.{lots_in}
 use Rattle.pairs.proofs.Outcomes.{of_lines}
-use Rattle.pairs.proofs.book.pair_by_law.Goals as goal
+use Rattle.pairs.proofs.whole_book.pair_by_law.Goals as goal
 
 pub returns : goal.returns
 returns c =

@@ -2,7 +2,7 @@ use Rattle.std.proofs.Common.{length, ap, ◌∙◌, arith}
 use Rattle.book.specs.Data.{contents}
 use Rattle.pairs.specs.Records.{lots_in}
 use Rattle.pairs.proofs.Outcomes.{written, rows_lines}
-use Rattle.pairs.proofs.book.pair_book.Goals as goal
+use Rattle.pairs.proofs.whole_book.pair_book.Goals as goal
 
 pub returns : goal.returns
 returns c =
