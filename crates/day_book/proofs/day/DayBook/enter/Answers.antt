@@ -29,28 +29,17 @@ invariant_of-self c =
     let covered : DayCovered y.cells.now y.accounts y.assets (es ++ e ∷ []) (set y.issues e.asset (get_or y.issues e.asset 0 + added e)) = push_covered y.cells.now y.accounts y.assets es e ok y.issues long y.covered in
     let covered' = subst (λ (n : ℕ). DayCovered y.cells.now y.accounts y.assets (es ++ e ∷ []) (set y.issues e.asset (get_or y.issues e.asset 0 + n))) (sym m) covered in
     let bounded = push_bounded y.cells.now y.accounts y.assets es e ok y.issues long room y.bounded in
-    let bounded' = subst (λ (n : ℕ). Bounded y.assets (set y.issues e.asset (get_or y.issues e.asset 0 + n))) (sym m) bounded in (
-      y.few_accounts,
-      (
-        y.few_assets,
-        (
-          y.size,
-          (
-            omega (arith, c.make_room.ensures.bound),
-            (
-              length-set y.entries.table y.entries.count e ∙ y.long,
-              (
-                ap (all_fit y.accounts y.assets (cell y.cells.now y.accounts y.assets)) pend ∙ push_fit y.cells.now y.accounts y.assets es e ok y.fit,
-                (
-                  subst (λ (l : List Entry). DayCovered y.cells.now y.accounts y.assets l (set y.issues e.asset (get_or y.issues e.asset 0 + c.issued-more.result))) (sym pend) covered',
-                  (bounded', tt),
-                ),
-              ),
-            ),
-          ),
-        ),
-      ),
-    )
+    let bounded' = subst (λ (n : ℕ). Bounded y.assets (set y.issues e.asset (get_or y.issues e.asset 0 + n))) (sym m) bounded in
+    record {
+      few_accounts = y.few_accounts;
+      few_assets = y.few_assets;
+      size = y.size;
+      few_entries = omega (arith, c.make_room.ensures.bound);
+      long = length-set y.entries.table y.entries.count e ∙ y.long;
+      fit = ap (all_fit y.accounts y.assets (cell y.cells.now y.accounts y.assets)) pend ∙ push_fit y.cells.now y.accounts y.assets es e ok y.fit;
+      covered = subst (λ (l : List Entry). DayCovered y.cells.now y.accounts y.assets l (set y.issues e.asset (get_or y.issues e.asset 0 + c.issued-more.result))) (sym pend) covered';
+      bounded = bounded';
+    }
 
 pub returns : goal.returns
 returns c =

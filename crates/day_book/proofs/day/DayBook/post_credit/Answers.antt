@@ -44,28 +44,17 @@ invariant_of-self c =
     let to = c.place-to.ensures.place in
     let cells' : List ℕ = set cells q (get_or cells q 0 + e.amount) in
     let same = credit_applies cells x.accounts x.assets e rest fit x.size q to c.requires.credits in
-    let moved_up : waits c.drop_first.new.self ≡ rest = c.drop_first.ensures.rest in (
-      x.few_accounts,
-      (
-        x.few_assets,
-        (
-          size_set _ cells q (get_or cells q 0 + e.amount) x.size,
-          (
-            omega (arith, c.drop_first.ensures.count, x.few_entries),
-            (
-              c.drop_first.ensures.long ∙ x.long,
-              (
-                ap (all_fit x.accounts x.assets (cell cells' x.accounts x.assets)) moved_up ∙ credit_fit cells x.accounts x.assets e rest fit x.size q to c.requires.credits,
-                (
-                  subst (λ (es : List Entry). DayCovered cells' x.accounts x.assets es x.issues) (sym moved_up) (same_covered cells cells' x.accounts x.assets (e ∷ rest) rest same x.issues (covered_from_oldest x c.requires.some)),
-                  (x.bounded, tt),
-                ),
-              ),
-            ),
-          ),
-        ),
-      ),
-    )
+    let moved_up : waits c.drop_first.new.self ≡ rest = c.drop_first.ensures.rest in
+    record {
+      few_accounts = x.few_accounts;
+      few_assets = x.few_assets;
+      size = size_set _ cells q (get_or cells q 0 + e.amount) x.size;
+      few_entries = omega (arith, c.drop_first.ensures.count, x.few_entries);
+      long = c.drop_first.ensures.long ∙ x.long;
+      fit = ap (all_fit x.accounts x.assets (cell cells' x.accounts x.assets)) moved_up ∙ credit_fit cells x.accounts x.assets e rest fit x.size q to c.requires.credits;
+      covered = subst (λ (es : List Entry). DayCovered cells' x.accounts x.assets es x.issues) (sym moved_up) (same_covered cells cells' x.accounts x.assets (e ∷ rest) rest same x.issues (covered_from_oldest x c.requires.some));
+      bounded = x.bounded;
+    }
 
 pub returns : goal.returns
 returns c =

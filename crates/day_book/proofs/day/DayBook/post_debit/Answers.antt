@@ -36,28 +36,17 @@ invariant_of-self c =
     let cells' : List ℕ = set cells p (get_or cells p 0 - e.amount) in
     let es' : pending (set table 0 (half e)) 0 x.entries.count ≡ half e ∷ rest = pending_set table 0 x.entries.count (half e) c.requires.some (in_table x c.requires.some) in
     let same = debit_applies cells x.accounts x.assets e rest fit x.size p at c.requires.moves in
-    let covered' = same_covered cells cells' x.accounts x.assets (e ∷ rest) (half e ∷ rest) same x.issues (covered_from_oldest x c.requires.some) in (
-      x.few_accounts,
-      (
-        x.few_assets,
-        (
-          size_set _ cells p (get_or cells p 0 - e.amount) x.size,
-          (
-            x.few_entries,
-            (
-              length-set table 0 (half e) ∙ x.long,
-              (
-                ap (all_fit x.accounts x.assets (cell cells' x.accounts x.assets)) es' ∙ debit_fit cells x.accounts x.assets e rest fit x.size p at c.requires.moves,
-                (
-                  subst (λ (es : List Entry). DayCovered cells' x.accounts x.assets es x.issues) (sym es') covered',
-                  (x.bounded, tt),
-                ),
-              ),
-            ),
-          ),
-        ),
-      ),
-    )
+    let covered' = same_covered cells cells' x.accounts x.assets (e ∷ rest) (half e ∷ rest) same x.issues (covered_from_oldest x c.requires.some) in
+    record {
+      few_accounts = x.few_accounts;
+      few_assets = x.few_assets;
+      size = size_set _ cells p (get_or cells p 0 - e.amount) x.size;
+      few_entries = x.few_entries;
+      long = length-set table 0 (half e) ∙ x.long;
+      fit = ap (all_fit x.accounts x.assets (cell cells' x.accounts x.assets)) es' ∙ debit_fit cells x.accounts x.assets e rest fit x.size p at c.requires.moves;
+      covered = subst (λ (es : List Entry). DayCovered cells' x.accounts x.assets es x.issues) (sym es') covered';
+      bounded = x.bounded;
+    }
 
 pub returns : goal.returns
 returns c =

@@ -15,28 +15,17 @@ invariant_of-self c =
     let n = c.args.accounts in
     let m = c.args.assets in
     let shape = made_shape cells n m c.requires.accepted in
-    let none : waits x.entries ≡ [] = none_fit x.accounts x.assets (cell cells x.accounts x.assets) (waits x.entries) c.requires.empty x.fit in (
-      shape.1.0,
-      (
-        shape.1.1.1.0,
-        (
-          omega (arith, shape.1.1.1.1),
-          (
-            x.few_entries,
-            (
-              x.long,
-              (
-                ap (all_fit n m (cell cells n m)) none,
-                (
-                  subst (λ (es : List Entry). DayCovered cells n m es c.args.issues) (sym none) (no_entries_covered cells n m c.args.issues (made_covered cells n m c.requires.accepted c.args.issues c.requires.counted)),
-                  (made_bounded cells n m c.requires.accepted c.args.issues c.requires.counted, tt),
-                ),
-              ),
-            ),
-          ),
-        ),
-      ),
-    )
+    let none : waits x.entries ≡ [] = none_fit x.accounts x.assets (cell cells x.accounts x.assets) (waits x.entries) c.requires.empty x.fit in
+    record {
+      few_accounts = shape.1.0;
+      few_assets = shape.1.1.1.0;
+      size = omega (arith, shape.1.1.1.1);
+      few_entries = x.few_entries;
+      long = x.long;
+      fit = ap (all_fit n m (cell cells n m)) none;
+      covered = subst (λ (es : List Entry). DayCovered cells n m es c.args.issues) (sym none) (no_entries_covered cells n m c.args.issues (made_covered cells n m c.requires.accepted c.args.issues c.requires.counted));
+      bounded = made_bounded cells n m c.requires.accepted c.args.issues c.requires.counted;
+    }
 
 pub returns : goal.returns
 returns c =

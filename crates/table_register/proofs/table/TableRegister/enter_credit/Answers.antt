@@ -23,19 +23,14 @@ invariant_of-self c =
     let told = credit_told (means x) c.args.account c.args.asset c.args.amount c.requires.accepted in
     let at = c.place-place.ensures.place in
     let hl : c.args.asset < length x.issues = search rules in
-    let fits : get_or x.issues c.args.asset 0 + c.args.amount ≤ most = omega (arith, told.fits, issued_in x.issues x.assets c.args.asset told.asset_known) in (
-      x.few_accounts,
-      (
-        x.few_assets,
-        (
-          size_set _ _ _ _ x.size,
-          (
-            credit_covered x.cells.now x.accounts x.assets c.args.account c.args.asset c.place-place.result x.size told.account_known told.asset_known at x.issues c.args.amount hl x.covered,
-            (credit_bounded x.cells.now x.accounts x.assets c.args.account c.args.asset c.place-place.result x.size told.account_known told.asset_known at x.issues c.args.amount hl fits x.bounded, tt),
-          ),
-        ),
-      ),
-    )
+    let fits : get_or x.issues c.args.asset 0 + c.args.amount ≤ most = omega (arith, told.fits, issued_in x.issues x.assets c.args.asset told.asset_known) in
+    record {
+      few_accounts = x.few_accounts;
+      few_assets = x.few_assets;
+      size = size_set _ _ _ _ x.size;
+      covered = credit_covered x.cells.now x.accounts x.assets c.args.account c.args.asset c.place-place.result x.size told.account_known told.asset_known at x.issues c.args.amount hl x.covered;
+      bounded = credit_bounded x.cells.now x.accounts x.assets c.args.account c.args.asset c.place-place.result x.size told.account_known told.asset_known at x.issues c.args.amount hl fits x.bounded;
+    }
 
 pub returns : goal.returns
 returns c =

@@ -23,19 +23,14 @@ overflow_sub-self c =
 pub invariant_of-self : goal.invariant_of-self
 invariant_of-self c =
     let x = c.args.self.now in
-    let told = move_told (means x) c.args.giver c.args.taker c.args.asset c.args.amount c.requires.accepted in (
-      x.few_accounts,
-      (
-        x.few_assets,
-        (
-          size_set _ _ _ _ x.size,
-          (
-            lower_covered x.cells.now x.accounts x.assets c.args.giver c.args.asset c.place-from.result x.size told.giver_known told.asset_known c.place-from.ensures.place x.issues c.args.amount x.covered,
-            (x.bounded, tt),
-          ),
-        ),
-      ),
-    )
+    let told = move_told (means x) c.args.giver c.args.taker c.args.asset c.args.amount c.requires.accepted in
+    record {
+      few_accounts = x.few_accounts;
+      few_assets = x.few_assets;
+      size = size_set _ _ _ _ x.size;
+      covered = lower_covered x.cells.now x.accounts x.assets c.args.giver c.args.asset c.place-from.result x.size told.giver_known told.asset_known c.place-from.ensures.place x.issues c.args.amount x.covered;
+      bounded = x.bounded;
+    }
 
 pub overflow_add-self : goal.overflow_add-self
 overflow_add-self c =
@@ -49,19 +44,14 @@ pub invariant_of-self-2 : goal.invariant_of-self-2
 invariant_of-self-2 c =
     let x = c.args.self.now in
     let told = move_told (means x) c.args.giver c.args.taker c.args.asset c.args.amount c.requires.accepted in
-    let enough : c.args.amount ≤ get_or x.cells.now c.place-from.result 0 = omega (arith, told.enough, held_in x.cells.now x.accounts x.assets c.args.giver c.args.asset c.place-from.result x.size told.giver_known told.asset_known c.place-from.ensures.place) in (
-      x.few_accounts,
-      (
-        x.few_assets,
-        (
-          size_set _ _ _ _ (size_set _ _ _ _ x.size),
-          (
-            move_covered x.cells.now x.accounts x.assets c.args.giver c.args.taker c.args.asset c.place-from.result c.place-to.result c.args.amount x.size told.giver_known told.taker_known told.asset_known c.place-from.ensures.place c.place-to.ensures.place told.apart x.issues enough x.covered,
-            (x.bounded, tt),
-          ),
-        ),
-      ),
-    )
+    let enough : c.args.amount ≤ get_or x.cells.now c.place-from.result 0 = omega (arith, told.enough, held_in x.cells.now x.accounts x.assets c.args.giver c.args.asset c.place-from.result x.size told.giver_known told.asset_known c.place-from.ensures.place) in
+    record {
+      few_accounts = x.few_accounts;
+      few_assets = x.few_assets;
+      size = size_set _ _ _ _ (size_set _ _ _ _ x.size);
+      covered = move_covered x.cells.now x.accounts x.assets c.args.giver c.args.taker c.args.asset c.place-from.result c.place-to.result c.args.amount x.size told.giver_known told.taker_known told.asset_known c.place-from.ensures.place c.place-to.ensures.place told.apart x.issues enough x.covered;
+      bounded = x.bounded;
+    }
 
 pub returns : goal.returns
 returns c =

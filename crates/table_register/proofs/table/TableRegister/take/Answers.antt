@@ -8,19 +8,14 @@ invariant_of-self c =
     let cells = c.args.self.now.cells.now in
     let n = c.args.accounts in
     let m = c.args.assets in
-    let shape = made_shape cells n m c.requires.accepted in (
-      shape.1.0,
-      (
-        shape.1.1.1.0,
-        (
-          omega (arith, shape.1.1.1.1),
-          (
-            made_covered cells n m c.requires.accepted c.args.issues c.requires.counted,
-            (made_bounded cells n m c.requires.accepted c.args.issues c.requires.counted, tt),
-          ),
-        ),
-      ),
-    )
+    let shape = made_shape cells n m c.requires.accepted in
+    record {
+      few_accounts = shape.1.0;
+      few_assets = shape.1.1.1.0;
+      size = omega (arith, shape.1.1.1.1);
+      covered = made_covered cells n m c.requires.accepted c.args.issues c.requires.counted;
+      bounded = made_bounded cells n m c.requires.accepted c.args.issues c.requires.counted;
+    }
 
 pub returns : goal.returns
 returns c =
