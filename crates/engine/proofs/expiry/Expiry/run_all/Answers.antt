@@ -1,4 +1,4 @@
-use Rattle.std.proofs.Common.{◌<◌, ◌≤◌, List, length, get_or, take, sym, refl, ◌∙◌, subst, arith}
+use Rattle.std.proofs.Common.{◌≡◌, ◌+◌, ◌<◌, ◌≤◌, List, length, get_or, set, take, sym, ap, ◌∙◌, subst, arith}
 use Rattle.register.specs.Registers.{meaning}
 use Rattle.rules.specs.Tally.{Opening}
 use Rattle.rules.specs.Histories as histories
@@ -13,15 +13,18 @@ use Rattle.engine.proofs.expiry.Expiry.run_all.Goals as goal
 pub loop-entry-preserved : goal.loop-entry-preserved
 loop-entry-preserved g c =
     let es : List Entry = c.loop-entry.entries in
-    let lt : c.loop-entry.entry-index < length c.loop-entry.entries = omega arith in
-    let e : Entry = record { call = (get_or es c.loop-entry.entry-index no_entry).call; answer = c.apply-entry.result } in
-    let then : Seen = seen c.apply-entry.new.self.state c.apply-entry.new.lines (meaning g.S.Balances c.apply-entry.new.securities) (meaning g.C.Balances c.apply-entry.new.cash) in
+    let i = c.loop-entry.entry-index in
+    let lt : i < length es = omega arith in
+    let e : Entry = record { call = (get_or es i no_entry).call; answer = c.apply-answer.result } in
+    let told : c.enter.new.self ≡ e = c.enter.ensures.entered_beside_its_call in
+    let then : Seen = seen c.apply-answer.new.self.state c.apply-answer.new.lines (meaning g.S.Balances c.apply-answer.new.securities) (meaning g.C.Balances c.apply-answer.new.cash) in
     let inv = c.loop-entry.invariant in (
-      (λ o h st. subst (λ (x : List histories.Entry). Stands o x then) (sym (entered_next es c.loop-entry.entry-index e h lt))
-          (c.apply-entry.ensures.goes_on_by_the_rules o (entered (take c.loop-entry.entry-index es) h) (inv.0 o h st))),
-      calls_kept es c.loop-entry.entry-index e refl ∙ inv.1,
-      c.apply-entry.ensures.memory_is_kept.0 ∙ inv.2,
-      c.apply-entry.ensures.memory_is_kept.1 ∙ inv.3,
+      (λ o h st. subst (λ (x : Entry). Stands o (entered (take (i + 1) (set es i x)) h) then) (sym told)
+          (subst (λ (x : List histories.Entry). Stands o x then) (sym (entered_next es i e h lt))
+          (c.apply-answer.ensures.goes_on_by_the_rules o (entered (take i es) h) (inv.0 o h st)))),
+      calls_kept es i c.enter.new.self (ap (λ (x : Entry). x.call) told) ∙ inv.1,
+      c.apply-answer.ensures.memory_is_kept.0 ∙ inv.2,
+      c.apply-answer.ensures.memory_is_kept.1 ∙ inv.3,
     )
 
 pub returns : goal.returns
