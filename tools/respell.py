@@ -21,7 +21,7 @@ MADE = r"(?:Goals|Given|Invariants|Answers|Tie|Code|Met|Reads|Statement|Kinds)"
 # A fact that stands first in a lemma's name keeps its capital and the dash behind it.
 FACTS = ("All-", "Decides-")
 # Where a word would be that of something else in the same place.
-SPECIAL = {}
+SPECIAL = {"holder-alike": "HolderAlike", "deliverable-alike": "DeliverableAlike"}
 
 
 def files(root, ends):

@@ -1,5 +1,5 @@
 -- What a draft keeps from line to line: it can be part of a book, and the lines read so far are its text.
-use Rattle.std.proofs.Common.{◌≡◌, ℕ, suc, ◌+◌, ◌<◌, ◌≤◌, true, false, cond, ◌&&◌, eqb, ltb, leb, ◌⊎◌, List, [], ◌∷◌, ◌++◌, length, Ok, Err, codes, sym, refl, ap, ◌∙◌, subst, ⊎_elim, append_assoc, arith, length-append, ltb-true, eq-eqb, eqb-true, leb-false}
+use Rattle.std.proofs.Common.{◌≡◌, ℕ, suc, ◌<◌, ◌≤◌, true, false, cond, ◌&&◌, eqb, ltb, leb, List, [], ◌∷◌, ◌++◌, length, Ok, Err, codes, sym, refl, ap, ◌∙◌, subst, ⊎_elim, append_assoc, arith, length-append, ltb-true, eq-eqb, eqb-true, leb-false}
 use Rattle.std.specs.List.{flat_map}
 use Rattle.std.specs.Str.{bytes_eq}
 use Rattle.std.proofs.lemmas.Slice.Eq.{bytes_eq-Decides}
@@ -8,7 +8,6 @@ use Rattle.std.proofs.lemmas.Bool.{and_parts, and_from, cases_Bool}
 use Rattle.text.specs.Parts.{fields, together}
 use Rattle.text.specs.Rows.{row, line, outside}
 use Rattle.text.proofs.RoundTrip.{accepted_good, accepted_is_text}
-use Rattle.book.specs.declared.records.Terms.{Terms}
 use Rattle.book.specs.declared.records.Holder.{Holder}
 use Rattle.book.specs.declared.awaits.Awaits.{Awaits}
 use Rattle.book.specs.declared.awaits.Awaits.TheVariants as awaits

@@ -1,5 +1,5 @@
 -- The test of a lawful book, and what every book that exists has: each gives the other.
-use Rattle.std.proofs.Common.{◌≡◌, ℕ, zero, suc, ◌+◌, ◌-◌, ◌<◌, ◌≤◌, Bool, true, not, ◌&&◌, ◌||◌, eqb, ltb, leb, ◌⊎◌, List, [], ◌∷◌, ◌++◌, length, get_or, ℤ, pos, negsuc, nat_abs, sym, refl, ap, ◌∙◌, subst, ⊎_elim, append_assoc, arith, length-append, ltb-true, lt-ltb, eq-eqb, ne_eqb, eqb-true, le-leb, leb-true}
+use Rattle.std.proofs.Common.{◌≡◌, ℕ, zero, suc, ◌+◌, ◌-◌, ◌<◌, ◌≤◌, Bool, true, not, ◌&&◌, ◌||◌, eqb, ltb, leb, List, [], ◌∷◌, ◌++◌, length, get_or, ℤ, pos, negsuc, nat_abs, sym, refl, ap, ◌∙◌, subst, ⊎_elim, append_assoc, arith, length-append, ltb-true, lt-ltb, eq-eqb, ne_eqb, eqb-true, le-leb, leb-true}
 use Rattle.std.specs.List.{AllByRecursion as All}
 use Rattle.std.proofs.lemmas.List.{get_or_append_left, get_or-append_right}
 use Rattle.std.proofs.lemmas.Bool.{and_parts, and_from, cond-true, cases_eq, cases_lt}
@@ -12,9 +12,9 @@ use Rattle.book.specs.declared.records.Terms.{Terms}
 use Rattle.book.specs.declared.records.Asset.{Asset}
 use Rattle.book.specs.declared.records.Holder.{Holder}
 use Rattle.book.specs.Limits.{most_assets, most_holders, most_bought, most_position}
-use Rattle.book.specs.Books.{Contents, nobody, holder, volume, In, AssetInRange, HolderInRange, stands_before, bought_by, sold_by, Sound}
+use Rattle.book.specs.Books.{Contents, nobody, holder, In, AssetInRange, HolderInRange, stands_before, bought_by, sold_by, Sound}
 use Rattle.book.specs.Format.{from_to, position_bound, terms_bounds, asset_bounds, holder_bounds, terms_values, asset_values, holder_values}
-use Rattle.book.specs.Lawful.{all, terms_ok, asset_ok, holder_ok, ascends, agree, agrees, rows, headed, complete, lawful}
+use Rattle.book.specs.Lawful.{all, terms_ok, asset_ok, holder_ok, ascends, agree, agrees, rows, headed, lawful}
 use Rattle.book.proofs.RecordValues.{counts, position_size}
 use Rattle.book.proofs.TextReads.{parts_of}
 

@@ -1,5 +1,5 @@
 -- The book, and its prices.
-use Rattle.std.specs.Prelude.{◌≡◌, ℕ, ◌+◌, ◌-◌, ◌*◌, ◌/◌, ◌<◌, ◌≤◌, Bool, true, cond, ◌&&◌, List, [], ◌∷◌, length, ℤ, pos, Some, None, sum_by, Option, ◌==◌, int_lt, nat_lt, slice_index_or, unsigned_abs}
+use Rattle.std.specs.Prelude.{◌≡◌, ℕ, ◌+◌, ◌*◌, ◌/◌, ◌<◌, ◌≤◌, Bool, true, cond, ◌&&◌, List, [], ◌∷◌, length, ℤ, pos, Some, None, sum_by, Option, ◌==◌, int_lt, nat_lt, slice_index_or, unsigned_abs}
 use Rattle.std.proofs.Math.IntN.{sub_ℕ}
 use Rattle.std.specs.List.{AllByRecursion as All}
 use Rattle.book.specs.Limits.{most_multiplier, least_price, most_price, least_factor, most_factor, most_accrued, most_market, most_member, most_number, most_agent, most_position, most_bought, most_assets, most_holders}

@@ -1,5 +1,5 @@
 -- The pairs of a book, told in the subject's words.
-use Rattle.std.proofs.Common.{◌-◌, List}
+use Rattle.std.proofs.Common.{List}
 use Rattle.pairing.specs.declared.pair.Unpaired.{Unpaired}
 use Rattle.pairing.specs.declared.pair.Pair.{Pair}
 use Rattle.pairing.specs.declared.stage.Group.{Group}

@@ -11,8 +11,8 @@ abbrev pub holder_leq : Unpaired → Unpaired → Bool
 holder_leq x y = nat_lt y.volume x.volume
     || (x.volume == y.volume && (nat_lt x.member y.member || (x.member == y.member && nat_le x.number y.number)))
 
-abbrev pub holder_alike : Unpaired → Unpaired → Type 0
-holder_alike x y = (x.volume ≡ y.volume) × (x.member ≡ y.member) × (x.number ≡ y.number)
+abbrev pub HolderAlike : Unpaired → Unpaired → Type 0
+HolderAlike x y = (x.volume ≡ y.volume) × (x.member ≡ y.member) × (x.number ≡ y.number)
 
 -- A holder is open while it has unpaired volume.
 abbrev pub holder_open : Unpaired → Bool
@@ -23,8 +23,8 @@ abbrev pub deliverable_leq : Deliverable → Deliverable → Bool
 deliverable_leq x y = nat_lt (x.market + y.invoice) (y.market + x.invoice)
     || (x.market + y.invoice == y.market + x.invoice && nat_le x.asset y.asset)
 
-abbrev pub deliverable_alike : Deliverable → Deliverable → Type 0
-deliverable_alike x y = (x.market + y.invoice ≡ y.market + x.invoice) × (x.asset ≡ y.asset)
+abbrev pub DeliverableAlike : Deliverable → Deliverable → Type 0
+DeliverableAlike x y = (x.market + y.invoice ≡ y.market + x.invoice) × (x.asset ≡ y.asset)
 
 -- The deliverables of a list of assets, numbered from a on.
 abbrev pub deliverables : ℕ → ℕ → List Asset → List Deliverable

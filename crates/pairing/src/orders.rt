@@ -1,6 +1,6 @@
 // The orders of holders and of deliverables, for the search of the first by an order.
 ghost use Rattle.std.specs.Prelude.{true};
-ghost use Rattle.pairing.specs.Orders.{holder_leq, holder_alike, holder_open, deliverable_leq, deliverable_alike};
+ghost use Rattle.pairing.specs.Orders.{holder_leq, HolderAlike, holder_open, deliverable_leq, DeliverableAlike};
 ghost use Rattle.std.proofs.Common.{rules};
 
 use crate::deliverable::Deliverable;
@@ -11,7 +11,7 @@ use order::Ranked;
 impl Ranked for Unpaired {
     ghost leq = { holder_leq };
 
-    ghost alike = { holder_alike };
+    ghost alike = { HolderAlike };
 
     ghost is_open = { holder_open };
 
@@ -37,7 +37,7 @@ impl Ranked for Unpaired {
 impl Ranked for Deliverable {
     ghost leq = { deliverable_leq };
 
-    ghost alike = { deliverable_alike };
+    ghost alike = { DeliverableAlike };
 
     ghost is_open = { λ _. true };
 

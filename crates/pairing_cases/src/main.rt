@@ -9,8 +9,8 @@ use book::fault::ReadFault;
 use cases::{next_line, read_table, unescape};
 use listing::print_lines;
 use pairing::line::Line;
-use pairs::whole_book::{hand_out, pair};
 use pairs::lots::{MOST_ASSETS, SellerLots};
+use pairs::whole_book::{hand_out, pair};
 use text::cut::step;
 use text::number::number;
 

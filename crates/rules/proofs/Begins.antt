@@ -1,5 +1,5 @@
 -- An expiry that was opened stands with no call made, and after any calls that the rules answer.
-use Rattle.std.proofs.Common.{◌≡◌, ℕ, ◌-◌, Bool, true, false, cond, eqb, [], refl, mul-zero, arith}
+use Rattle.std.proofs.Common.{◌≡◌, ℕ, Bool, true, false, cond, eqb, [], refl, mul-zero, arith}
 use Rattle.rules.specs.declared.side.Side.{Side}
 use Rattle.rules.specs.declared.side.Side.TheVariants.{Securities, Cash}
 use Rattle.rules.specs.Tally.{Opening, empty, opened, told, units, money, at_0}

@@ -1,5 +1,5 @@
 -- The differences in the told balances never cut: what is subtracted is at most what is added, for every account and asset.
-use Rattle.std.proofs.Common.{◌≡◌, ℕ, zero, suc, ◌+◌, ◌-◌, ◌*◌, ◌≤◌, ap, ◌∙◌, inl, inr, mul-le-mul_left, mul-zero, arith}
+use Rattle.std.proofs.Common.{◌≡◌, ℕ, zero, suc, ◌+◌, ◌*◌, ◌≤◌, ap, ◌∙◌, inl, inr, mul-le-mul_left, mul-zero, arith}
 use Rattle.std.proofs.lemmas.Bool.{ne_eqb}
 use Rattle.rules.specs.declared.side.Side.TheVariants.{Securities, Cash}
 use Rattle.book.specs.Books.{Sound}

@@ -1,5 +1,5 @@
 -- Registers that mean the same refuse the same, and mean the same after the same postings.
-use Rattle.std.proofs.Common.{◌≡◌, ℕ, ◌-◌, Bool, true, false, cond, List, [], ◌∷◌, Some, None, Option, refl, ap, ◌∙◌, arith}
+use Rattle.std.proofs.Common.{◌≡◌, ℕ, Bool, true, false, cond, List, [], ◌∷◌, Some, None, Option, refl, ap, ◌∙◌, arith}
 use Rattle.register.specs.declared.fault.RegisterFault.{RegisterFault}
 use Rattle.register.specs.Rules.{Meaning, credit_refused, transfer_refused, with_credit, with_move, unless_refused, after_credit, after_transfer}
 use Rattle.rules.specs.declared.side.Side.{Side}

@@ -1,5 +1,5 @@
 -- Where an expiry stands it has room, a refused call leaves it standing, and its registers follow the postings of a call.
-use Rattle.std.proofs.Common.{◌≡◌, ℕ, ◌-◌, ◌≤◌, Bool, List, [], ◌∷◌, map, length, drop, sym, refl, ap, ◌∙◌, inl, inr, arith, length-append, length-drop}
+use Rattle.std.proofs.Common.{◌≡◌, ℕ, ◌≤◌, Bool, List, [], ◌∷◌, map, length, drop, sym, refl, ap, ◌∙◌, inl, inr, arith, length-append, length-drop}
 use Rattle.std.proofs.lemmas.Bool.{cases_lt}
 use Rattle.register.specs.Rules.{Meaning}
 use Rattle.book.specs.Books.{Contents}

@@ -1,5 +1,4 @@
 -- All days agree: 61 of them. Written by tests/rules_days.py.
-use Rattle.std.specs.Prelude.{List}
 use Rattle.rules_days.specs.Trials.{Agree}
 use Rattle.rules_days.specs.Days01 as days01
 use Rattle.rules_days.specs.Days02 as days02

@@ -1,11 +1,10 @@
 -- Days that the separate player played, with what it told. Written by tests/rules_days.py.
-use Rattle.std.specs.Prelude.{ℕ, List, [], ◌∷◌, ℤ, pos, negsuc}
+use Rattle.std.specs.Prelude.{List, [], ◌∷◌, pos, negsuc}
 use Rattle.rules.specs.declared.side.Side.TheVariants.{Securities, Cash}
 use Rattle.rules.specs.declared.speaker.Speaker.TheVariants as speaker
 use Rattle.rules.specs.declared.call.Call.TheVariants as call
-use Rattle.rules.specs.declared.fault.Part.TheVariants as part
 use Rattle.pairing.specs.Cases.{asset, buyer, seller, book}
-use Rattle.rules_days.specs.Trials.{Day, asks, cramped, tell, ok, counts, refused, refused_by, stands}
+use Rattle.rules_days.specs.Trials.{Day, asks, tell, ok, counts, refused, refused_by, stands}
 
 abbrev pub day_1 : Day
 day_1 = record {

@@ -1,5 +1,5 @@
 -- Days that the separate player played, with what it told. Written by tests/rules_days.py.
-use Rattle.std.specs.Prelude.{ℕ, List, [], ◌∷◌, ℤ, pos, negsuc}
+use Rattle.std.specs.Prelude.{List, [], ◌∷◌, pos, negsuc}
 use Rattle.rules.specs.declared.side.Side.TheVariants.{Securities, Cash}
 use Rattle.rules.specs.declared.speaker.Speaker.TheVariants as speaker
 use Rattle.rules.specs.declared.call.Call.TheVariants as call

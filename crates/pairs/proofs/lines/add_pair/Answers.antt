@@ -1,4 +1,4 @@
-use Rattle.std.proofs.Common.{◌-◌, ◌<◌, min, take, ap, ◌∙◌, arith}
+use Rattle.std.proofs.Common.{◌<◌, min, take, ap, ◌∙◌, arith}
 use Rattle.pairing.specs.Lines.{add_line}
 use Rattle.pairs.specs.Records.{lots_from}
 use Rattle.pairs.proofs.WrittenLines.{left_held, asset_more, stays_both}

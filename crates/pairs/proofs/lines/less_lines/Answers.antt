@@ -1,4 +1,4 @@
-use Rattle.std.proofs.Common.{◌≡◌, ℕ, ◌-◌, cond, List, drop, arith}
+use Rattle.std.proofs.Common.{◌≡◌, ℕ, cond, List, drop, arith}
 use Rattle.std.proofs.lemmas.List.{at_drop_all}
 use Rattle.std.proofs.lemmas.List.Sums.{sum_by-drop_more}
 use Rattle.pairing.specs.declared.line.Line.{Line}
