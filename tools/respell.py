@@ -78,6 +78,14 @@ def in_comments(text, new):
     return re.sub(r"(?m)(?:--|//) [^\n]*$", lambda m: in_backticks(m.group(), new), text)
 
 
+def plain_all(text):
+    """The library's `All` goes by index today; the one by recursion, which the files mean, is called by its own name."""
+    if "AllByRecursion as All" not in text:
+        return text
+    text = text.replace("AllByRecursion as All", "AllByRecursion")
+    return TOKEN.sub(lambda m: "AllByRecursion" if m.group() == "All" else m.group(), text)
+
+
 def main(root):
     own = set(os.listdir(os.path.join(root, "crates")))
     antt = {p: read(p) for p in files(root, ".antt")}
@@ -149,6 +157,7 @@ def main(root):
             with open(p, "w", encoding="utf-8") as f:
                 f.write(turned)
     for p, text in said.items():
+        text = plain_all(text)
         said[p] = re.sub(r"([{, ])(\w+) as \2(?=[,}])", r"\1\2", in_comments(text, new))
     for p, text in said.items():
         if text != {**antt, **rt}[p]:

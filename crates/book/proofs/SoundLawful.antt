@@ -1,6 +1,6 @@
 -- The test of a lawful book, and what every book that exists has: each gives the other.
 use Rattle.std.proofs.Common.{◌≡◌, ℕ, zero, suc, ◌+◌, ◌-◌, ◌<◌, ◌≤◌, Bool, true, not, ◌&&◌, ◌||◌, eqb, ltb, leb, List, [], ◌∷◌, ◌++◌, length, get_or, ℤ, pos, negsuc, nat_abs, sym, refl, ap, ◌∙◌, subst, ⊎_elim, append_assoc, arith, length-append, ltb-true, lt-ltb, eq-eqb, ne_eqb, eqb-true, le-leb, leb-true}
-use Rattle.std.specs.List.{AllByRecursion as All}
+use Rattle.std.specs.List.{AllByRecursion}
 use Rattle.std.proofs.lemmas.List.{get_or_append_left, get_or-append_right}
 use Rattle.std.proofs.lemmas.Bool.{and_parts, and_from, cond-true, cases_eq, cases_lt}
 use Rattle.std.proofs.lemmas.Bool.Decides.{nat_tests}
@@ -76,11 +76,11 @@ holder_in x r =
     (inside_all 5 (from_to 1 64) (position_bound ∷ []) (pos x.agent) (x.position ∷ []) (in_bound 1 64 x.agent (omega arith) r.agent)
     (inside_all 6 position_bound [] x.position [] (in_position x.position r.volume) refl)))))
 
-all_to : {X : Type 0} (p : X → Bool) (P : X → Type 0) → ((x : X) → p x ≡ true → P x) → (xs : List X) → all p xs ≡ true → All P xs
+all_to : {X : Type 0} (p : X → Bool) (P : X → Type 0) → ((x : X) → p x ≡ true → P x) → (xs : List X) → all p xs ≡ true → AllByRecursion P xs
 all_to p P f [] h = tt
 all_to p P f (x ∷ xs) h = let q = and_parts (p x) (all p xs) h in (f x q.0, all_to p P f xs q.1)
 
-all_from : {X : Type 0} (p : X → Bool) (P : X → Type 0) → ((x : X) → P x → p x ≡ true) → (xs : List X) → All P xs → all p xs ≡ true
+all_from : {X : Type 0} (p : X → Bool) (P : X → Type 0) → ((x : X) → P x → p x ≡ true) → (xs : List X) → AllByRecursion P xs → all p xs ≡ true
 all_from p P f [] h = refl
 all_from p P f (x ∷ xs) h = and_from (p x) (all p xs) (f x h.0) (all_from p P f xs h.1)
 

@@ -1,6 +1,6 @@
 -- The text of a book is shorter than a file may be.
 use Rattle.std.proofs.Common.{◌≡◌, ℕ, suc, ◌+◌, ◌*◌, ◌^◌, ◌<◌, ◌≤◌, List, [], ◌∷◌, ◌++◌, length, ℤ, pos, negsuc, nat_abs, decimal, mul-suc, arith, length-append}
-use Rattle.std.specs.List.{flat_map, AllByRecursion as All}
+use Rattle.std.specs.List.{flat_map, AllByRecursion}
 use Rattle.std.specs.Fmt.{signed_decimal}
 use Rattle.std.proofs.lemmas.Fmt.{length-decimal-le}
 use Rattle.text.specs.Pages.{most_bytes}
@@ -41,7 +41,7 @@ holder_length x r =
     let e = position_length x.position r.volume.1 in
     simp length-append (omega arith)
 
-joined_length : {X : Type 0} (P : X → Type 0) (f : X → List ℕ) (k : ℕ) → ((x : X) → P x → length (f x) ≤ k) → (xs : List X) → All P xs → length (flat_map f xs) ≤ k * length xs
+joined_length : {X : Type 0} (P : X → Type 0) (f : X → List ℕ) (k : ℕ) → ((x : X) → P x → length (f x) ≤ k) → (xs : List X) → AllByRecursion P xs → length (flat_map f xs) ≤ k * length xs
 joined_length P f k h [] a = omega arith
 joined_length P f k h (x ∷ xs) a =
     let i = joined_length P f k h xs a.1 in

@@ -1,7 +1,7 @@
 -- The book, and its prices.
 use Rattle.std.specs.Prelude.{◌≡◌, ℕ, ◌+◌, ◌*◌, ◌/◌, ◌<◌, ◌≤◌, Bool, true, cond, ◌&&◌, List, [], ◌∷◌, length, ℤ, pos, Some, None, sum_by, Option, ◌==◌, int_lt, nat_lt, slice_index_or, unsigned_abs}
 use Rattle.std.proofs.Math.IntN.{sub_ℕ}
-use Rattle.std.specs.List.{AllByRecursion as All}
+use Rattle.std.specs.List.{AllByRecursion}
 use Rattle.book.specs.Limits.{most_multiplier, least_price, most_price, least_factor, most_factor, most_accrued, most_market, most_member, most_number, most_agent, most_position, most_bought, most_assets, most_holders}
 use Rattle.book.specs.declared.records.Terms.{Terms}
 use Rattle.book.specs.declared.records.Asset.{Asset}
@@ -116,9 +116,9 @@ pub record Sound (b : Contents) : Type 0 where
   pub multiplier : In 1 most_multiplier b.terms.multiplier
   pub price : In least_price most_price b.terms.price
   pub asset_count : In 1 most_assets (length b.assets)
-  pub assets : All AssetInRange b.assets
+  pub assets : AllByRecursion AssetInRange b.assets
   pub holder_count : In 1 most_holders (length b.holders)
-  pub holders : All HolderInRange b.holders
+  pub holders : AllByRecursion HolderInRange b.holders
   pub ascending : (r s : ℕ) → 1 ≤ r → r < s → s ≤ length b.holders → stands_before (holder b r) (holder b s) ≡ true
   pub one_clearing : (r s : ℕ) → In 1 (length b.holders) r → In 1 (length b.holders) s → (holder b r).member ≡ (holder b s).member → (holder b r).clearing ≡ (holder b s).clearing
   pub one_agent : (r s : ℕ) → In 1 (length b.holders) r → In 1 (length b.holders) s → (holder b r).clearing ≡ (holder b s).clearing → (holder b r).agent ≡ (holder b s).agent

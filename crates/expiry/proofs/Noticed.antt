@@ -1,6 +1,6 @@
 -- A notice goes on by the rules.
 use Rattle.std.proofs.Common.{◌≡◌, ℕ, zero, suc, ◌+◌, ◌-◌, ◌<◌, ◌≤◌, Bool, true, false, cond, ◌&&◌, ◌||◌, eqb, ltb, leb, List, [], ◌∷◌, length, get_or, set, Some, None, Ok, Err, Option, sym, refl, ap, ◌∙◌, inl, inr, add_comm, zero-add, add-one, arith}
-use Rattle.std.specs.List.{AllByRecursion as All}
+use Rattle.std.specs.List.{AllByRecursion}
 use Rattle.std.proofs.lemmas.List.{get_or-set_same, get_or-set_other}
 use Rattle.std.proofs.lemmas.List.Sums.{sum_by-cons}
 use Rattle.std.proofs.ByRecursion.{All-get_or}
@@ -46,7 +46,7 @@ same_speaks : (t : Tally) (speaker : Speaker) (h : Holder) → speaks_for t spea
 same_speaks t (Member n) h = refl
 same_speaks t (Clearing n) h = refl
 
-all_passed : (cs : List Check) → first_failed cs ≡ None → All (λ (x : Check). x.0 ≡ true) cs
+all_passed : (cs : List Check) → first_failed cs ≡ None → AllByRecursion (λ (x : Check). x.0 ≡ true) cs
 all_passed [] h = tt
 all_passed ((true, e) ∷ cs) h = (refl, all_passed cs h)
 all_passed ((false, e) ∷ cs) h = absurd (let z : ◌≡◌ {A = ℕ} 0 1 = cc in omega arith)
@@ -131,7 +131,7 @@ raised_at x a k f held lt bound none i = elim (cases_lt i 4) [
   | inr g ↦ four_out (lot_more x a k 0) (lot_more x a k 1) (lot_more x a k 2) (lot_more x a k 3) i g ∙ rw (ne_eqb a i (λ z. omega arith)) (let z = none i g in omega (arith, z))
 ]
 
-none_beyond : (lots : List Lot) (row a n : ℕ) → All (λ (x : Lot). x.asset < n) lots → n ≤ a → lot lots row a ≡ 0
+none_beyond : (lots : List Lot) (row a n : ℕ) → AllByRecursion (λ (x : Lot). x.asset < n) lots → n ≤ a → lot lots row a ≡ 0
 none_beyond [] row a n h p = refl
 none_beyond (x ∷ lots) row a n h p =
     sum_by-cons (λ (y : Lot). cond (eqb y.row row && eqb y.asset a) y.contracts 0) x lots
@@ -217,7 +217,7 @@ notice_accepted o h e ls s c sp m n a k place p within st = record {
     lived : Lived o ((notice_call sp m n a k, Ok Done) ∷ h)
     lived = (sym v, st.lived)
 
-    each : All (λ (x : Check). x.0 ≡ true) (checks o (tally_of o h) (notice_call sp m n a k))
+    each : AllByRecursion (λ (x : Check). x.0 ≡ true) (checks o (tally_of o h) (notice_call sp m n a k))
     each = all_passed (checks o (tally_of o h) (notice_call sp m n a k)) (told_stops o (tally_of o h) sp m n a k ∙ (sym (as_told o h e ls s c sp m n a k st) ∙ passed.0))
 
     at : row_named o.book m n ≡ place + 1

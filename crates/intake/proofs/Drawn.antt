@@ -1,6 +1,6 @@
 -- A draw goes on by the rules.
 use Rattle.std.proofs.Common.{◌≡◌, ℕ, ◌+◌, ◌<◌, ◌≤◌, Bool, true, false, cond, ◌&&◌, eqb, ltb, ◌⊎◌, List, [], ◌∷◌, ◌++◌, length, get_or, set, is_ok, Some, None, Ok, Err, sym, refl, ap, ◌∙◌, subst, inl, inr, zero-add, arith}
-use Rattle.std.specs.List.{AllByRecursion as All}
+use Rattle.std.specs.List.{AllByRecursion}
 use Rattle.std.proofs.ByRecursion.{All-weaker}
 use Rattle.std.proofs.lemmas.List.{get_or-set_same, get_or-set_other}
 use Rattle.std.proofs.lemmas.List.Sums.{sum_by-cons}
@@ -72,7 +72,7 @@ module _ (o : Opening) (h : List Entry) (e : State) (made rest : List Line) (s m
     | inr none ↦ omega arith
   ]
     where
-      each : All (λ l. buyer_agent o.book l ≤ 64) (tally_of o h).lines
+      each : AllByRecursion (λ l. buyer_agent o.book l ≤ 64) (tally_of o h).lines
       each = All-weaker (Sane o.book) (λ l. buyer_agent o.book l ≤ 64) (λ l sane. (agent_in o.book st.opens.book l.buyer sane.buyer).1) (tally_of o h).lines (kept o h st.opens st.lived).lines
 
   module _ (agent : ℕ) (now' : in_its_session (tally_of o h) (draw_call agent) ≡ true) where

@@ -1,6 +1,6 @@
 -- The lots that the records hold are those that the tally tells.
 use Rattle.std.proofs.Common.{◌≡◌, ℕ, zero, suc, ◌+◌, ◌<◌, ◌≤◌, cond, ◌&&◌, eqb, List, [], ◌∷◌, length, get_or, sym, refl, ap, ◌∙◌, inl, inr, add-one, arith}
-use Rattle.std.specs.List.{AllByRecursion as All}
+use Rattle.std.specs.List.{AllByRecursion}
 use Rattle.std.proofs.ByRecursion.{All-append, All-weaker}
 use Rattle.std.proofs.lemmas.Bool.{cases_lt}
 use Rattle.register.specs.Rules.{Meaning}
@@ -23,16 +23,16 @@ part row a x = cond (eqb x.row row && eqb x.asset a) x.contracts 0
 
 -- ---- rows and assets that have no lot
 
-other_assets : (row a : ℕ) (lots : List Lot) → All (λ (x : Lot). (x.asset ≡ a → ⊥)) lots → lot lots row a ≡ 0
+other_assets : (row a : ℕ) (lots : List Lot) → AllByRecursion (λ (x : Lot). (x.asset ≡ a → ⊥)) lots → lot lots row a ≡ 0
 other_assets row a lots none =
     sum_zero (part row a) lots (All-weaker (λ (x : Lot). (x.asset ≡ a → ⊥)) (λ x. part row a x ≡ 0) (λ x ne. off (eqb x.row row) x.contracts x.asset a ne) lots none)
 
-pub none_beyond : (lots : List Lot) (row a n : ℕ) → All (λ (x : Lot). x.asset < n) lots → n ≤ a → lot lots row a ≡ 0
+pub none_beyond : (lots : List Lot) (row a n : ℕ) → AllByRecursion (λ (x : Lot). x.asset < n) lots → n ≤ a → lot lots row a ≡ 0
 none_beyond lots row a n all past = other_assets row a lots (All-weaker (λ (x : Lot). x.asset < n) (λ x. (x.asset ≡ a → ⊥)) (λ x lt e. omega arith) lots all)
 
 -- ---- the lots of records
 
-row_names : (row : ℕ) (lots : List ℕ) (from k : ℕ) → All (λ (x : Lot). (x.row ≡ row) × (from ≤ x.asset) × (x.asset < from + k)) (row_lots row lots from k)
+row_names : (row : ℕ) (lots : List ℕ) (from k : ℕ) → AllByRecursion (λ (x : Lot). (x.row ≡ row) × (from ≤ x.asset) × (x.asset < from + k)) (row_lots row lots from k)
 row_names row lots from zero = tt
 row_names row lots from (suc k) = (
   (refl, omega arith, omega arith),
@@ -40,7 +40,7 @@ row_names row lots from (suc k) = (
       (row_lots row lots (from + 1) k) (row_names row lots (from + 1) k),
 )
 
-names : (n from : ℕ) (xs : List SellerLots) → All (λ (x : Lot). (from ≤ x.row) × (x.asset < n)) (lots_from n from xs)
+names : (n from : ℕ) (xs : List SellerLots) → AllByRecursion (λ (x : Lot). (from ≤ x.row) × (x.asset < n)) (lots_from n from xs)
 names n from [] = tt
 names n from (x ∷ xs) =
     All-append (λ (y : Lot). (from ≤ y.row) × (y.asset < n)) (row_lots from x.lots 0 n) (lots_from n (from + 1) xs)
@@ -48,7 +48,7 @@ names n from (x ∷ xs) =
     (All-weaker (λ (y : Lot). (from + 1 ≤ y.row) × (y.asset < n)) (λ y. (from ≤ y.row) × (y.asset < n)) (λ y q. (omega (arith, q.0), q.1)) (lots_from n (from + 1) xs) (names n (from + 1) xs))
 
 -- Records have lots for so many assets only.
-pub held_assets : (n : ℕ) (xs : List SellerLots) → All (λ (x : Lot). x.asset < n) (lots_from n 1 xs)
+pub held_assets : (n : ℕ) (xs : List SellerLots) → AllByRecursion (λ (x : Lot). x.asset < n) (lots_from n 1 xs)
 held_assets n xs = All-weaker (λ (x : Lot). (1 ≤ x.row) × (x.asset < n)) (λ x. x.asset < n) (λ x q. q.1) (lots_from n 1 xs) (names n 1 xs)
 
 -- The lot of a row for an asset is the one in its record.

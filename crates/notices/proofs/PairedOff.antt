@@ -1,7 +1,7 @@
 -- Pairing goes on by the rules.
 use Rattle.std.proofs.Common.{◌≡◌, ℕ, ◌≤◌, true, false, cond, eqb, List, ◌∷◌, length, get_or, take, drop, ℤ, pos, is_ok, None, Ok, Err, Result, sym, refl, ap, ◌∙◌, subst, inl, inr, arith}
 use lib.IntN.{sub_ℕ}
-use Rattle.std.specs.List.{AllByRecursion as All}
+use Rattle.std.specs.List.{AllByRecursion}
 use Rattle.std.proofs.ByRecursion.{All-weaker}
 use Rattle.std.proofs.lemmas.List.{get_or_past, take_at}
 use Rattle.std.proofs.lemmas.Bool.{cases_lt, cond-false, eqb-true, le-ltb, ne_eqb}
@@ -40,7 +40,7 @@ use Rattle.notices.proofs.HeldLots.{same_lots}
 -- ---- nets
 
 -- An agent that no book has nets nothing.
-no_agent : (b : Contents) (ls : List Line) (agent : ℕ) → Sound b → All (Sane b) ls → 65 ≤ agent → net b ls agent ≡ pos 0
+no_agent : (b : Contents) (ls : List Line) (agent : ℕ) → Sound b → AllByRecursion (Sane b) ls → 65 ≤ agent → net b ls agent ≡ pos 0
 no_agent b ls agent sound sane past = ap (λ (x : ℕ). sub_ℕ x (value_bought b (λ l. l.contracts) ls agent)) sold ∙ ap (λ (x : ℕ). sub_ℕ 0 x) bought
   where
     bought : value_bought b (λ l. l.contracts) ls agent ≡ 0
@@ -52,7 +52,7 @@ no_agent b ls agent sound sane past = ap (λ (x : ℕ). sub_ℕ x (value_bought 
         (All-weaker (Sane b) (λ l. cond (eqb (seller_agent b l) agent) (value b l.asset l.contracts) 0 ≡ 0) (λ l v. let q = (agent_in b sound l.seller v.seller).1 in rw (ne_eqb (seller_agent b l) agent (λ z. omega arith)) refl) ls sane)
 
 -- The nets of all agents of a book are those of every number.
-each_agent : (b : Contents) (ls : List Line) (nets : List ℤ) → Sound b → All (Sane b) ls → length nets ≡ 65
+each_agent : (b : Contents) (ls : List Line) (nets : List ℤ) → Sound b → AllByRecursion (Sane b) ls → length nets ≡ 65
     → ((k : ℕ) → k ≤ most_agent → get_or nets k (pos 0) ≡ net b ls k) → (agent : ℕ) → get_or nets agent (pos 0) ≡ net b ls agent
 each_agent b ls nets sound sane long each agent = elim (cases_lt agent 65) [
   | inl lt ↦ each agent (omega arith)

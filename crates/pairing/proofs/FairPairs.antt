@@ -2,7 +2,7 @@
 use Rattle.std.proofs.Common.{◌≡◌, ℕ, ◌<◌, min, Bool, true, false, cond, not, ◌&&◌, eqb, ltb, ◌⊎◌, List, [], ◌∷◌, ◌++◌, length, Some, None, Option, sym, refl, ap, ◌∙◌, subst, inl, inr, ⊎_elim, append_assoc, arith}
 use native.Mathlib.Nat.{min-le_left, min-le_right, min-eq_left, min-eq_right}
 use Rattle.std.proofs.lemmas.List.Sums.{sum_by-cons}
-use Rattle.std.specs.List.{AllByRecursion as All}
+use Rattle.std.specs.List.{AllByRecursion}
 use Rattle.std.proofs.lemmas.Bool.{true≢false, and_parts, not-true, ltb-true, ltb-false, eqb-true, cases_lt}
 use Rattle.pairing.specs.declared.pair.Unpaired.{Unpaired}
 use Rattle.pairing.specs.declared.pair.Pair.{Pair}
@@ -123,7 +123,7 @@ in_group_made g ok (equal_first a b) = made_append
 pub in_group_emptied : (g : Group) {hs : List Unpaired} {ps : List Pair} {ks : List Unpaired} → InGroup g hs ps ks → Emptied g ks
 in_group_emptied g (equal_first {ls = ls} a b) = no_pair_emptied g ls (repeats_ends (first_pair g) b)
 
-pub paired_made : {G : Group → Type 0} {gs : List Group} {hs : List Unpaired} {ps : List Pair} {ks : List Unpaired} → All G gs → Paired gs hs ps ks → Made G hs ps ks
+pub paired_made : {G : Group → Type 0} {gs : List Group} {hs : List Unpaired} {ps : List Pair} {ks : List Unpaired} → AllByRecursion G gs → Paired gs hs ps ks → Made G hs ps ks
 paired_made all over = none
 paired_made all (group {g = g} i r) = made_append (in_group_made g all.0 i) (paired_made all.1 r)
 

@@ -1,7 +1,7 @@
 -- The laws of the lines of a book, from those of its pairs.
 use Rattle.std.proofs.Common.{◌≡◌, ℕ, zero, suc, ◌+◌, ◌*◌, ◌<◌, ◌≤◌, Bool, true, false, cond, eqb, List, [], length, sum_by, sym, refl, ap, ◌∙◌, subst, ⊎_elim, mul-le-mul, add-one, arith}
 use lib.IntN.{sub_ℕ}
-use Rattle.std.specs.List.{AllByRecursion as All}
+use Rattle.std.specs.List.{AllByRecursion}
 use Rattle.std.proofs.ByRecursion.{All-weaker}
 use Rattle.std.proofs.lemmas.List.{get_or_past}
 use Rattle.std.proofs.lemmas.Bool.{cases_eq, cases_lt, cases_Bool, eq-eqb, ne_eqb, both_ways}
@@ -38,7 +38,7 @@ in_book b f never (suc k) e = ⊎_elim
 
 -- Where the tested rows of records all pass a test that a row fails, none has that row.
 pub no_row : {X : Type 0} (b : Contents) (f : Holder → Bool) (place : X → ℕ) (row : ℕ) → f (holder b row) ≡ false
-    → (xs : List X) → All (λ x. f (holder b (place x)) ≡ true) xs → All (λ x. eqb (place x) row ≡ false) xs
+    → (xs : List X) → AllByRecursion (λ x. f (holder b (place x)) ≡ true) xs → AllByRecursion (λ x. eqb (place x) row ≡ false) xs
 no_row b f place row never xs all = All-weaker (λ x. f (holder b (place x)) ≡ true) (λ x. eqb (place x) row ≡ false)
     (λ x e. ne_eqb (place x) row (λ q. both_ways (f (holder b row)) never (sym (ap (λ r. f (holder b r)) q) ∙ e))) xs all
 
@@ -46,7 +46,7 @@ module _ (b : Contents) (ok : Sound b) where
   law : Lawful (rows b) (pairs b)
   law = pairs_lawful b ok
 
-  pub row_sides : All (λ p. (buys (holder b (p.buyer + 1)) ≡ true) × (sells (holder b (p.seller + 1)) ≡ true)) (pairs b)
+  pub row_sides : AllByRecursion (λ p. (buys (holder b (p.buyer + 1)) ≡ true) × (sells (holder b (p.seller + 1)) ≡ true)) (pairs b)
   row_sides = All-weaker (Sides (rows b)) (λ p. (buys (holder b (p.buyer + 1)) ≡ true) × (sells (holder b (p.seller + 1)) ≡ true))
       (λ p s.
       let x = row_is b p.buyer in let y = row_is b p.seller in
@@ -109,7 +109,7 @@ module _ (b : Contents) (ok : Sound b) where
     pub lines_between : (φ : ℕ → ℕ → Bool) → between φ (lines_of b lots) ≡ between_pairs φ (pairs b)
     lines_between φ = let r = runs_between lots (length b.assets) φ (pairs b) [] (λ row a. omega arith) tt enough in omega (arith, r)
 
-    pub lines_fresh : All (Fresh b) (lines_of b lots)
+    pub lines_fresh : AllByRecursion (Fresh b) (lines_of b lots)
     lines_fresh = runs_all lots (length b.assets) (Fresh b) (pairs b) []
         (All-weaker _ (λ (p : Pair). (a n : ℕ) → a < length b.assets → 0 < n → Fresh b (fresh p a n))
         (λ p s a n lt some. record { some = some; buyer = s.0; seller = s.1; asset = lt; none_taken = refl; none_settled = refl; none_returned = refl }) (pairs b) row_sides) tt

@@ -1,6 +1,6 @@
 -- Lines keep most contracts near: any lines that pair the book are pairs of its rows, and the pairs made are nearest among these.
 use Rattle.std.proofs.Common.{◌≡◌, ℕ, ◌+◌, ◌-◌, ◌<◌, ◌≤◌, true, cond, ◌&&◌, eqb, ◌⊎◌, List, [], ◌∷◌, map, length, sym, refl, ap, ◌∙◌, subst, inl, inr, ⊎_elim, arith}
-use Rattle.std.specs.List.{AllByRecursion as All}
+use Rattle.std.specs.List.{AllByRecursion}
 use Rattle.std.proofs.ByRecursion.{All-weaker, All-map}
 use Rattle.std.proofs.lemmas.List.Sums.{sum_by-cons}
 use Rattle.std.proofs.lemmas.Bool.{cases_eq, cases_Bool, eq-eqb, ne_eqb, eqb-true, and_parts}
@@ -36,7 +36,7 @@ back_is : (b : Contents) (row : ℕ) → 1 ≤ row → at (rows b) (row - 1) ≡
 back_is b row h = let e : row - 1 + 1 ≡ row = omega arith in row_is b (row - 1) ∙ ap (λ r. unpaired (holder b r)) e
 
 -- No contracts are within a number, or a holder has it.
-found : (hs : List Unpaired) (stage : Stage) (n : ℕ) (ps : List Pair) → All (Sides hs) ps
+found : (hs : List Unpaired) (stage : Stage) (n : ℕ) (ps : List Pair) → AllByRecursion (Sides hs) ps
     → (words.within (λ i. key stage (at hs i)) n ps ≡ 0) ⊎ ((k : ℕ) × (k < length hs) × (key stage (at hs k) ≡ n))
 found hs stage n [] all = inl refl
 found hs stage n (p ∷ ps) all = ⊎_elim
@@ -51,12 +51,12 @@ found hs stage n (p ∷ ps) all = ⊎_elim
     (cases_Bool (eqb (key stage (at hs p.buyer)) n && eqb (key stage (at hs p.seller)) n))
 
 module _ (b : Contents) (ls : List Line) (all : Pairing b ls) where
-  seats : All (λ l. (1 ≤ l.buyer) × (l.buyer ≤ length b.holders) × (1 ≤ l.seller) × (l.seller ≤ length b.holders)) ls
+  seats : AllByRecursion (λ l. (1 ≤ l.buyer) × (l.buyer ≤ length b.holders) × (1 ≤ l.seller) × (l.seller ≤ length b.holders)) ls
   seats = All-weaker (λ l. (buys (holder b l.buyer) ≡ true) × (sells (holder b l.seller) ≡ true))
       (λ l. (1 ≤ l.buyer) × (l.buyer ≤ length b.holders) × (1 ≤ l.seller) × (l.seller ≤ length b.holders))
       (λ l s. let x = in_book b buys refl l.buyer s.0 in let y = in_book b sells refl l.seller s.1 in (x.0, x.1, y.0, y.1)) ls all.sides
 
-  back_sides : All (Sides (rows b)) (map back ls)
+  back_sides : AllByRecursion (Sides (rows b)) (map back ls)
   back_sides = All-map (Sides (rows b)) back ls (All-weaker (λ l. (buys (holder b l.buyer) ≡ true) × (sells (holder b l.seller) ≡ true)) (λ l. Sides (rows b) (back l))
       (λ l s.
       let x = in_book b buys refl l.buyer s.0 in let y = in_book b sells refl l.seller s.1 in

@@ -1,7 +1,7 @@
 -- Pair by pair, the lines are parts of the pairs, in the order made.
 use Rattle.std.proofs.Common.{◌≡◌, ℕ, zero, suc, ◌+◌, ◌-◌, ◌<◌, ◌≤◌, min, Bool, true, false, cond, eqb, List, [], ◌∷◌, ◌++◌, length, sym, refl, ap, ◌∙◌, subst, append_assoc, append-nil, arith}
 use native.Mathlib.Nat.{min-le_left}
-use Rattle.std.specs.List.{AllByRecursion as All}
+use Rattle.std.specs.List.{AllByRecursion}
 use Rattle.std.proofs.lemmas.List.Sums.{sum_by-append}
 use Rattle.std.proofs.ByRecursion.{All-append}
 use Rattle.std.proofs.lemmas.Bool.{eqb-true}
@@ -20,7 +20,7 @@ record Part (p : Pair) (n : ℕ) (ls rs : List Line) : Type 0 where
   new : List Line
   is : rs ≡ ls ++ new
   sums : contracts_in new ≡ n
-  of : All (Of p) new
+  of : AllByRecursion (Of p) new
 
 pair_part : (lots : List Lot) (p : Pair) (k a n : ℕ) (ls : List Line) → n ≤ over_assets (left lots ls (p.seller + 1)) a k → Part p n ls (lines_of_pair lots p k a n ls)
 pair_part lots p zero a n ls h = record { new = []; is = sym (append-nil ls); sums = omega arith; of = tt }
@@ -42,7 +42,7 @@ record Runs (ps : List Pair) (ls rs : List Line) : Type 0 where
   is : rs ≡ ls ++ new
   parts : Parts ps new
 
-pairs_parts : (lots : List Lot) (K : ℕ) (ps : List Pair) (ls : List Line) → InLots lots ls → All (λ l. l.asset < K) ls → Enough lots K ps ls
+pairs_parts : (lots : List Lot) (K : ℕ) (ps : List Pair) (ls : List Line) → InLots lots ls → AllByRecursion (λ l. l.asset < K) ls → Enough lots K ps ls
     → Runs ps ls (lines_of_pairs lots K ps ls)
 pairs_parts lots K [] ls fits assets enough = record { new = []; is = sym (append-nil ls); parts = done }
 pairs_parts lots K (p ∷ ps) ls fits assets enough =

@@ -1,6 +1,6 @@
 -- What the lines of all pairs have.
 use Rattle.std.proofs.Common.{◌≡◌, ℕ, zero, suc, ◌+◌, ◌*◌, ◌<◌, ◌≤◌, Bool, cond, eqb, List, [], ◌∷◌, length, sum_by, refl, ap, add-mul, arith}
-use Rattle.std.specs.List.{AllByRecursion as All}
+use Rattle.std.specs.List.{AllByRecursion}
 use Rattle.std.proofs.lemmas.List.Sums.{sum_by-cons}
 use Rattle.std.proofs.lemmas.Bool.{eq-eqb}
 use Rattle.pairing.specs.declared.pair.Pair.{Pair}
@@ -28,7 +28,7 @@ module _ (lots : List Lot) (K : ℕ) where
   left_and_sold ls h row a zero = refl
   left_and_sold ls h row a (suc k) = let ih = left_and_sold ls h row (a + 1) k in let z = h row a in omega (arith, ih, z)
 
-  module _ (p : Pair) (ps : List Pair) (ls : List Line) (fits : InLots lots ls) (assets : All (λ l. l.asset < K) ls) where
+  module _ (p : Pair) (ps : List Pair) (ls : List Line) (fits : InLots lots ls) (assets : AllByRecursion (λ l. l.asset < K) ls) where
     pub covered : Enough lots K (p ∷ ps) ls → p.contracts ≤ over_assets (left lots ls (p.seller + 1)) 0 K
     covered enough =
         let row = p.seller + 1 in
@@ -46,11 +46,11 @@ module _ (lots : List Lot) (K : ℕ) where
         let c = sum_by-cons (λ (q : Pair). cond (eqb (q.seller + 1) row) q.contracts 0) p ps in
         omega (arith, e, b, c)
 
-    pub assets_rest : All (λ l. l.asset < K) (lines_of_pair lots p K 0 p.contracts ls)
+    pub assets_rest : AllByRecursion (λ l. l.asset < K) (lines_of_pair lots p K 0 p.contracts ls)
     assets_rest = pair_all lots p (λ l. l.asset < K) K (λ a n lt some. lt) K 0 p.contracts ls (omega arith) assets
 
   -- Pairs that the lots cover put all their contracts into lines of their buyers and sellers.
-  pub runs_between : (φ : ℕ → ℕ → Bool) (ps : List Pair) (ls : List Line) → InLots lots ls → All (λ l. l.asset < K) ls → Enough lots K ps ls
+  pub runs_between : (φ : ℕ → ℕ → Bool) (ps : List Pair) (ls : List Line) → InLots lots ls → AllByRecursion (λ l. l.asset < K) ls → Enough lots K ps ls
       → between φ (lines_of_pairs lots K ps ls) ≡ between φ ls + between_pairs φ ps
   runs_between φ [] ls fits assets enough = omega arith
   runs_between φ (p ∷ ps) ls fits assets enough =
@@ -64,7 +64,7 @@ module _ (lots : List Lot) (K : ℕ) where
   runs_in_lots [] ls h = h
   runs_in_lots (p ∷ ps) ls h = runs_in_lots ps (lines_of_pair lots p K 0 p.contracts ls) (pair_in_lots lots p K 0 p.contracts ls h)
 
-  pub runs_all : (P : Line → Type 0) (ps : List Pair) (ls : List Line) → All (λ p. (a n : ℕ) → a < K → 0 < n → P (fresh p a n)) ps → All P ls → All P (lines_of_pairs lots K ps ls)
+  pub runs_all : (P : Line → Type 0) (ps : List Pair) (ls : List Line) → AllByRecursion (λ p. (a n : ℕ) → a < K → 0 < n → P (fresh p a n)) ps → AllByRecursion P ls → AllByRecursion P (lines_of_pairs lots K ps ls)
   runs_all P [] ls new all = all
   runs_all P (p ∷ ps) ls new all = runs_all P ps (lines_of_pair lots p K 0 p.contracts ls) new.1 (pair_all lots p P K new.0 K 0 p.contracts ls (omega arith) all)
 

@@ -1,7 +1,7 @@
 -- What the lines of a pair add to the lines so far.
 use Rattle.std.proofs.Common.{◌≡◌, ℕ, zero, suc, ◌+◌, ◌-◌, ◌<◌, ◌≤◌, min, Bool, true, false, cond, ◌&&◌, eqb, ◌⊎◌, List, [], ◌∷◌, ◌++◌, length, refl, ap, subst, inl, inr, ⊎_elim, arith, length-append}
 use native.Mathlib.Nat.{min-le_left, min-le_right, min-eq_left, min-eq_right}
-use Rattle.std.specs.List.{AllByRecursion as All}
+use Rattle.std.specs.List.{AllByRecursion}
 use Rattle.std.proofs.lemmas.List.Sums.{sum_by_push}
 use Rattle.std.proofs.ByRecursion.{All-push}
 use Rattle.std.proofs.lemmas.Bool.{cases_lt, eqb-true, eqb-false, and_parts}
@@ -44,10 +44,10 @@ add_total passes ls l = go (eqb l.contracts 0) refl
     go true e = let z = nothing (passes l) l.contracts (eqb-true _ _ e) in omega (arith, z)
     go false e = sum_by_push (λ k. cond (passes k) k.contracts 0) ls l
 
-pub add_all : (P : Line → Type 0) (ls : List Line) (l : Line) → All P ls → (0 < l.contracts → P l) → All P (add_line ls l)
+pub add_all : (P : Line → Type 0) (ls : List Line) (l : Line) → AllByRecursion P ls → (0 < l.contracts → P l) → AllByRecursion P (add_line ls l)
 add_all P ls l all h = go (eqb l.contracts 0) refl
   where
-    go : (t : Bool) → eqb l.contracts 0 ≡ t → All P (cond t ls (ls ++ (l ∷ [])))
+    go : (t : Bool) → eqb l.contracts 0 ≡ t → AllByRecursion P (cond t ls (ls ++ (l ∷ [])))
     go true e = all
     go false e = All-push P ls l all (h (let ne = eqb-false _ _ e in ⊎_elim (λ q. q) (λ q. absurd (ne (omega arith))) (cases_lt 0 l.contracts)))
 
@@ -113,7 +113,7 @@ module _ (lots : List Lot) (p : Pair) where
 
   -- What holds of each fresh line with contracts holds of all lines.
   pub pair_all : (P : Line → Type 0) (K : ℕ) → ((a n : ℕ) → a < K → 0 < n → P (fresh p a n))
-      → (k a n : ℕ) (ls : List Line) → a + k ≤ K → All P ls → All P (lines_of_pair lots p k a n ls)
+      → (k a n : ℕ) (ls : List Line) → a + k ≤ K → AllByRecursion P ls → AllByRecursion P (lines_of_pair lots p k a n ls)
   pair_all P K new zero a n ls h all = all
   pair_all P K new (suc k) a n ls h all =
       let u = min n (left lots ls (p.seller + 1) a) in

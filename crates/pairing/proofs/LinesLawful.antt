@@ -1,6 +1,6 @@
 -- The lines of a book that is not empty are lawful, and so are those without notices.
 use Rattle.std.proofs.Common.{◌≡◌, ℕ, zero, suc, ◌+◌, ◌-◌, ◌<◌, true, cond, eqb, List, [], ◌∷◌, length, get_or, sum_by, sym, refl, ap, ◌∙◌, mul-le-mul, add-one, arith}
-use Rattle.std.specs.List.{AllByRecursion as All}
+use Rattle.std.specs.List.{AllByRecursion}
 use Rattle.std.proofs.lemmas.List.Sums.{sum_by-cons}
 use Rattle.std.proofs.lemmas.Bool.{eq-eqb, ne_eqb}
 use Rattle.book.specs.declared.records.Holder.{Holder}
@@ -68,7 +68,7 @@ added_row (suc k) from a (x ∷ hs) does =
     = ap (λ r. sum_by (of_row r) (added_from (from + 1) hs a [])) row ∙ added_row k (from + 1) a hs does in
     omega (arith, s, z, ih)
 
-added_assets : (K row : ℕ) (hs : List Holder) (a : ℕ) → a < K → All (λ x. x.asset < K) (added_from row hs a [])
+added_assets : (K row : ℕ) (hs : List Holder) (a : ℕ) → a < K → AllByRecursion (λ x. x.asset < K) (added_from row hs a [])
 added_assets K row [] a h = tt
 added_assets K row (x ∷ hs) a h = (h, added_assets K (row + 1) hs a h)
 

@@ -4,7 +4,7 @@ use Rattle.std.proofs.lemmas.List.Sums.{sum_by-cons, get_or-le-sum_by, sum_by-se
 use Rattle.std.proofs.lemmas.List.{get_or-set_same, get_or-set_other, length-set}
 use Rattle.std.proofs.lemmas.Bool.{cases_lt, lt-ltb, le-ltb}
 use Rattle.std.proofs.ByRecursion.{All-weaker}
-use Rattle.std.specs.List.{AllByRecursion as All}
+use Rattle.std.specs.List.{AllByRecursion}
 use Rattle.pairing.specs.declared.pair.Unpaired.{Unpaired}
 use Rattle.pairing.specs.declared.pair.Pair.{Pair}
 use Rattle.pairing.specs.declared.stage.Group.{Group}
@@ -31,7 +31,7 @@ module _ {g : Group} {hs : List Unpaired} {p : Pair} (f : Fair g hs p) where
       → volume_of passes hs ≡ (cond (passes (at hs p.buyer)) p.contracts 0 + cond (passes (at hs p.seller)) p.contracts 0) + volume_of passes (paired p hs)
   fair_volume_of = step.paired_volume_of hs p f.buyer_in f.seller_in f.buys f.sells f.buyer_has f.seller_has
 
-  pub fair_sides : (ps : List Pair) → All (Sides (paired p hs)) ps → All (Sides hs) ps
+  pub fair_sides : (ps : List Pair) → AllByRecursion (Sides (paired p hs)) ps → AllByRecursion (Sides hs) ps
   fair_sides ps = All-weaker (Sides (paired p hs)) (Sides hs) (λ q s. (
     rw fair_length at s.0,
     rw fair_length at s.1,
@@ -72,7 +72,7 @@ module _ {G : Group → Type 0} where
   made_keeps h same k none = refl
   made_keeps h same k (one g ok f m) = made_keeps h same k m ∙ fair_keeps f h same k
 
-  pub made_sides : {ps : List Pair} {hs ks : List Unpaired} → Made G hs ps ks → All (Sides hs) ps
+  pub made_sides : {ps : List Pair} {hs ks : List Unpaired} → Made G hs ps ks → AllByRecursion (Sides hs) ps
   made_sides none = tt
   made_sides (one {ps = ps} g ok f m) = ((f.buyer_in, f.seller_in, f.buys, f.sells), fair_sides f ps (made_sides m))
 

@@ -1,6 +1,6 @@
 -- Words of the proofs on pairs: pairing as relations over rows, and what the laws say of rows.
 use Rattle.std.proofs.Common.{◌≡◌, ℕ, ◌+◌, ◌<◌, ◌≤◌, true, false, cond, ◌&&◌, eqb, ltb, ◌⊎◌, List, [], ◌∷◌, ◌++◌, length, Some, None, sum_by, Option}
-use Rattle.std.specs.List.{AllByRecursion as All}
+use Rattle.std.specs.List.{AllByRecursion}
 use Rattle.pairing.specs.declared.pair.Unpaired.{Unpaired}
 use Rattle.pairing.specs.declared.pair.Pair.{Pair}
 use Rattle.pairing.specs.declared.stage.Group.{Group}
@@ -42,7 +42,7 @@ Sides hs p = (p.buyer < length hs) × (p.seller < length hs) × ((at hs p.buyer)
 
 -- A pairing of the book puts each contract bought against a sold one of its own.
 pub record Pairing (hs : List Unpaired) (ps : List Pair) : Type 0 where
-  pub sides : All (Sides hs) ps
+  pub sides : AllByRecursion (Sides hs) ps
   pub sums : (k : ℕ) → k < length hs → contracts_of k ps ≡ (at hs k).volume
 
 -- The contracts within the group of the number n, for the key that stands at each place.

@@ -1,6 +1,6 @@
 -- The laws of the pairs of rows: a pairing, fewer pairs than holders, most contracts near.
 use Rattle.std.proofs.Common.{◌≡◌, ℕ, zero, suc, ◌+◌, ◌<◌, ◌≤◌, Bool, cond, ◌&&◌, eqb, ltb, ◌⊎◌, List, [], ◌∷◌, ◌++◌, length, sym, refl, ap, ◌∙◌, subst, inl, inr, ⊎_elim, append_assoc, arith}
-use Rattle.std.specs.List.{AllByRecursion as All}
+use Rattle.std.specs.List.{AllByRecursion}
 use Rattle.std.proofs.ByRecursion.{All-append}
 use Rattle.std.proofs.lemmas.List.Sums.{sum_by-cons, sum_by-append}
 use Rattle.std.proofs.lemmas.Bool.{cases_eq, lt-ltb, le-ltb}
@@ -23,7 +23,7 @@ pub record Stands (stage : Stage) (n : ℕ) (gs : List Group) : Type 0 where
   pub before : List Group
   pub after : List Group
   pub whole : gs ≡ before ++ (record { stage = stage; number = n } ∷ after)
-  pub finer : All (λ g. rank g.stage ≤ rank stage) before
+  pub finer : AllByRecursion (λ g. rank g.stage ≤ rank stage) before
 
 stands_in : (stage : Stage) (n from count : ℕ) → from ≤ n → n < from + count → Stands stage n (numbered stage from count)
 stands_in stage n from zero low high = absurd (omega arith)
@@ -37,7 +37,7 @@ stands_in stage n from (suc c) low high = ⊎_elim
     })
     (cases_eq from n)
 
-numbered_finer : (stage other : Stage) → rank stage ≤ rank other → (from count : ℕ) → All (λ g. rank g.stage ≤ rank other) (numbered stage from count)
+numbered_finer : (stage other : Stage) → rank stage ≤ rank other → (from count : ℕ) → AllByRecursion (λ g. rank g.stage ≤ rank other) (numbered stage from count)
 numbered_finer stage other le from zero = tt
 numbered_finer stage other le from (suc c) = (le, numbered_finer stage other le (from + 1) c)
 
@@ -49,7 +49,7 @@ stands_left {stage = stage} {n = n} hs s = record {
   finer = s.finer;
 }
 
-stands_right : {stage : Stage} {n : ℕ} {gs : List Group} (fs : List Group) → All (λ g. rank g.stage ≤ rank stage) fs → Stands stage n gs → Stands stage n (fs ++ gs)
+stands_right : {stage : Stage} {n : ℕ} {gs : List Group} (fs : List Group) → AllByRecursion (λ g. rank g.stage ≤ rank stage) fs → Stands stage n gs → Stands stage n (fs ++ gs)
 stands_right {stage = stage} fs fine s = record {
   before = fs ++ s.before;
   after = s.after;
@@ -125,7 +125,7 @@ paired_ends : (fs : List Group) (g : Group) {hs : List Unpaired} {ps : List Pair
 paired_ends [] g (group i over) = in_group_emptied g i
 paired_ends (f ∷ fs) g (group i r) = paired_ends fs g r
 
-unit_all : (gs : List Group) → All (λ g. Unit {0}) gs
+unit_all : (gs : List Group) → AllByRecursion (λ g. Unit {0}) gs
 unit_all [] = tt
 unit_all (g ∷ gs) = (tt, unit_all gs)
 

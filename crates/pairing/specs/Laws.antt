@@ -1,7 +1,7 @@
 -- Pairings of a book, and what makes one good: few pairs, and most contracts near.
 use Rattle.std.specs.Prelude.{◌≡◌, ℕ, ◌+◌, ◌*◌, ◌<◌, ◌≤◌, true, cond, ◌&&◌, List, [], ◌∷◌, ◌++◌, length, ℤ, sum_by, ◌==◌, nat_eq}
 use Rattle.std.proofs.Math.IntN.{sub_ℕ}
-use Rattle.std.specs.List.{AllByRecursion as All}
+use Rattle.std.specs.List.{AllByRecursion}
 use Rattle.order.specs.First.{any}
 use Rattle.book.specs.Books.{Contents, holder, buys, sells, volume}
 use Rattle.pairing.specs.declared.stage.Stage.{Stage}
@@ -18,7 +18,7 @@ position_on ls row = sub_ℕ (total (λ l. nat_eq l.buyer row) (λ l. l.contract
 -- A pairing of the book puts each contract bought against a sold one of its own: every line has a buyer and a seller of
 -- the book, and each holder's lines add up to its position.
 pub record Pairing (b : Contents) (ls : List Line) : Type 0 where
-  pub sides : All (λ l. (buys (holder b l.buyer) ≡ true) × (sells (holder b l.seller) ≡ true)) ls
+  pub sides : AllByRecursion (λ l. (buys (holder b l.buyer) ≡ true) × (sells (holder b l.seller) ≡ true)) ls
   pub positions : (row : ℕ) → position_on ls row ≡ (holder b row).position
 
 -- The member, clearing member or payment agent of the holder in a row.
@@ -48,7 +48,7 @@ pub record WellPaired (b : Contents) (ls : List Line) : Type 0 where
 
 -- Each seller's lots add up to its volume, and lots name assets of the book only.
 pub record Notified (b : Contents) (lots : List Lot) : Type 0 where
-  pub assets : All (λ x. x.asset < length b.assets) lots
+  pub assets : AllByRecursion (λ x. x.asset < length b.assets) lots
   pub whole : (row : ℕ) → sells (holder b row) ≡ true → sum_by (λ x. cond (x.row == row) x.contracts 0) lots ≡ volume (holder b row)
 
 -- Each seller's lines of an asset add up to its lot.
@@ -68,7 +68,7 @@ contracts_in ls = sum_by (λ l. l.contracts) ls
 -- The lines are parts of the pairs: for each pair, in order, some lines of it, which have its contracts.
 pub data Parts : List Pair → List Line → Type 0 where
   done : Parts [] []
-  part : {p : Pair} {ps : List Pair} {rest : List Line} (new : List Line) → All (Of p) new → contracts_in new ≡ p.contracts → Parts ps rest → Parts (p ∷ ps) (new ++ rest)
+  part : {p : Pair} {ps : List Pair} {rest : List Line} (new : List Line) → AllByRecursion (Of p) new → contracts_in new ≡ p.contracts → Parts ps rest → Parts (p ∷ ps) (new ++ rest)
 
 -- ---- the laws
 

@@ -1,6 +1,6 @@
 -- The pairs of all groups: they are no more than the holders, and name only their places.
 use Rattle.std.proofs.Common.{ℕ, ◌<◌, ◌≤◌, List, [], ◌∷◌, length, arith}
-use Rattle.std.specs.List.{AllByRecursion as All}
+use Rattle.std.specs.List.{AllByRecursion}
 use Rattle.std.proofs.ByRecursion.{All-weaker}
 use Rattle.pairing.specs.declared.pair.Unpaired.{Unpaired}
 use Rattle.pairing.specs.declared.stage.Group.{Group}
@@ -10,7 +10,7 @@ use Rattle.pairing.proofs.PairLaws.{in_groups_holds, open_le}
 use Rattle.pairing.proofs.FairPairs.{paired_made}
 use Rattle.pairing.proofs.MadePairs.{made_count, made_sides}
 
-unit_all : (gs : List Group) → All (λ g. Unit {0}) gs
+unit_all : (gs : List Group) → AllByRecursion (λ g. Unit {0}) gs
 unit_all [] = tt
 unit_all (g ∷ gs) = (tt, unit_all gs)
 
@@ -21,5 +21,5 @@ module _ (gs : List Group) (hs : List Unpaired) where
   pub pairs_few : length (in_groups gs hs).0 ≤ length hs
   pairs_few = let c = made_count made in let o = open_le hs in omega (arith, c, o)
 
-  pub pairs_near : (n : ℕ) → length hs ≤ n → All (λ p. (p.buyer < n) × (p.seller < n)) (in_groups gs hs).0
+  pub pairs_near : (n : ℕ) → length hs ≤ n → AllByRecursion (λ p. (p.buyer < n) × (p.seller < n)) (in_groups gs hs).0
   pairs_near n h = All-weaker (Sides hs) (λ p. (p.buyer < n) × (p.seller < n)) (λ p s. (omega (arith, s.0, h), omega (arith, s.1, h))) (in_groups gs hs).0 (made_sides made)

@@ -1,6 +1,6 @@
 // The lines that pairs make of the sellers' lots.
 ghost use Rattle.std.specs.Prelude.{◌≡◌, ◌+◌, ◌-◌, ◌*◌, ◌<◌, ◌≤◌, [], length, take, drop, if◌then◌else◌};
-ghost use Rattle.std.specs.List.{AllByRecursion as All};
+ghost use Rattle.std.specs.List.{AllByRecursion};
 ghost use Rattle.book.specs.Limits.{most_assets, most_holders};
 ghost use Rattle.pairing.specs.Laws.{places_a_holder};
 ghost use Rattle.pairing.specs.Lines.{total, of_seller, add_line, fresh, lines_of_pair, lines_of_pairs};
@@ -115,7 +115,7 @@ pub(crate) fn add_pairs(
     lines: &mut [Line],
 ) -> usize
     requires few_assets { assets ≤ most_assets }
-    requires near { All (λ p. (p.buyer < most_holders) × (p.seller < most_holders)) pairs.now }
+    requires near { AllByRecursion (λ p. (p.buyer < most_holders) × (p.seller < most_holders)) pairs.now }
     requires room { places_a_holder * length pairs.now ≤ length lines.old }
     ensures by_the_rule { take result lines.new ≡ lines_of_pairs (lots_from assets 1 lots.now) assets pairs.now [] }
     ensures later_places_stay { drop result lines.new ≡ drop result lines.old }

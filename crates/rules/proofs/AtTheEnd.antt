@@ -1,6 +1,6 @@
 -- At the end account 0 holds nothing, and every line is finished.
 use Rattle.std.proofs.Common.{◌≡◌, ℕ, zero, suc, ◌+◌, ◌*◌, ◌<◌, Bool, true, false, cond, List, ◌∷◌, length, get_or, refl, ap, ◌∙◌, inl, inr, mul-zero, arith}
-use Rattle.std.specs.List.{AllByRecursion as All}
+use Rattle.std.specs.List.{AllByRecursion}
 use Rattle.std.proofs.ByRecursion.{All-weaker, All-get_or}
 use Rattle.std.proofs.lemmas.List.{get_or_past}
 use Rattle.std.proofs.lemmas.Bool.{cases_lt}
@@ -44,7 +44,7 @@ not_in a l n = let e : inside l ≡ 0 = omega arith in ap (λ z. cond (of_asset 
     nil true = refl
     nil false = refl
 
-none_at : (ls : List Line) → All NoneIn ls → (i : ℕ) → NoneIn (get_or (no_line ∷ ls) i no_line)
+none_at : (ls : List Line) → AllByRecursion NoneIn ls → (i : ℕ) → NoneIn (get_or (no_line ∷ ls) i no_line)
 none_at ls a zero = refl
 none_at ls a (suc j) = elim (cases_lt j (length ls)) [
   | inl lt ↦ All-get_or NoneIn ls j no_line lt a

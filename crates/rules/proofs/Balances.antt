@@ -1,6 +1,6 @@
 -- The told balances by addition: in a tally that keeps the invariant nothing is cut off.
 use Rattle.std.proofs.Common.{◌≡◌, ℕ, zero, suc, ◌+◌, ◌-◌, ◌*◌, ◌<◌, cond, eqb, List, length, refl, ap, arith}
-use Rattle.std.specs.List.{AllByRecursion as All}
+use Rattle.std.specs.List.{AllByRecursion}
 use Rattle.std.proofs.ByRecursion.{All-get_or, All-weaker}
 use Rattle.std.proofs.lemmas.Bool.{ne_eqb}
 use Rattle.book.specs.declared.records.Holder.{Holder}
@@ -13,7 +13,7 @@ use Rattle.rules.proofs.Totals.{sum_zero}
 use Rattle.rules.proofs.Kept.{Kept, Sane, gave, got, spent, earned}
 
 -- what holds of every holder holds of each row
-pub rows_all : (P : Holder → Type 0) (b : Contents) → All P b.holders → (row : ℕ) → In 1 (length b.holders) row → P (holder b row)
+pub rows_all : (P : Holder → Type 0) (b : Contents) → AllByRecursion P b.holders → (row : ℕ) → In 1 (length b.holders) row → P (holder b row)
 rows_all P b a zero r = absurd (let q = r.0 in omega arith)
 rows_all P b a (suc i) r = All-get_or P b.holders i nobody (let q = r.1 in omega arith) a
 
@@ -40,13 +40,13 @@ money_at o t k p s =
     omega (arith, u, z)
 
 -- no line is of row 0, nor of agent 0
-pub row_0 : (b : Contents) (ls : List Line) (a : ℕ) → All (Sane b) ls → (gave ls 0 a ≡ 0) × (got ls 0 a ≡ 0)
+pub row_0 : (b : Contents) (ls : List Line) (a : ℕ) → AllByRecursion (Sane b) ls → (gave ls 0 a ≡ 0) × (got ls 0 a ≡ 0)
 row_0 b ls a s = (
   sum_zero (λ l. cond (of_seller 0 a l) (l.taken - l.returned) 0) ls (All-weaker (Sane b) (λ l. cond (of_seller 0 a l) (l.taken - l.returned) 0 ≡ 0) (λ l v. let q = v.seller.0 in let e = ne_eqb l.seller 0 (λ z. omega arith) in rw e refl) ls s),
   sum_zero (λ l. cond (of_buyer 0 a l) l.settled 0) ls (All-weaker (Sane b) (λ l. cond (of_buyer 0 a l) l.settled 0 ≡ 0) (λ l v. let q = v.buyer.0 in let e = ne_eqb l.buyer 0 (λ z. omega arith) in rw e refl) ls s),
 )
 
-pub agent_0 : (b : Contents) (f : Line → ℕ) (ls : List Line) → Sound b → All (Sane b) ls → (value_bought b f ls 0 ≡ 0) × (value_sold b f ls 0 ≡ 0)
+pub agent_0 : (b : Contents) (f : Line → ℕ) (ls : List Line) → Sound b → AllByRecursion (Sane b) ls → (value_bought b f ls 0 ≡ 0) × (value_sold b f ls 0 ≡ 0)
 agent_0 b f ls d s = (
   sum_zero (λ l. cond (eqb (buyer_agent b l) 0) (value b l.asset (f l)) 0) ls (All-weaker (Sane b) (λ l. cond (eqb (buyer_agent b l) 0) (value b l.asset (f l)) 0 ≡ 0) (λ l v. let q = (agent_in b d l.buyer v.buyer).0 in let e = ne_eqb (buyer_agent b l) 0 (λ z. omega arith) in rw e refl) ls s),
   sum_zero (λ l. cond (eqb (seller_agent b l) 0) (value b l.asset (f l)) 0) ls (All-weaker (Sane b) (λ l. cond (eqb (seller_agent b l) 0) (value b l.asset (f l)) 0 ≡ 0) (λ l v. let q = (agent_in b d l.seller v.seller).0 in let e = ne_eqb (seller_agent b l) 0 (λ z. omega arith) in rw e refl) ls s),

@@ -1,7 +1,7 @@
 -- No sum of the rules passes its range: contracts, units, values, nets, claims and balances.
 use Rattle.std.proofs.Common.{◌≡◌, ℕ, zero, suc, ◌+◌, ◌-◌, ◌*◌, ◌≤◌, Bool, true, false, cond, ◌&&◌, eqb, ltb, List, [], ◌∷◌, length, ℤ, pos, negsuc, ◌-ℤ◌, ◌*ℤ◌, nat_abs, sum_by, ap, ◌∙◌, inl, inr, mul_assoc, add-mul, mul-le-mul, mul-le-mul_left, arith}
 use lib.IntN.{sub_ℕ, pos-*ℤ-pos, pos-*ℤ-negsuc}
-use Rattle.std.specs.List.{range_with_len, AllByRecursion as All}
+use Rattle.std.specs.List.{range_with_len, AllByRecursion}
 use Rattle.std.proofs.lemmas.List.Sums.{sum_by-cons}
 use Rattle.std.proofs.ByRecursion.{All-weaker, All-get_or}
 use Rattle.std.proofs.lemmas.List.{get_or_past}
@@ -50,7 +50,7 @@ value_bound b a n s =
 
 -- ---- sums
 
-sum_scaled : (f c : Line → ℕ) (q : ℕ) (ls : List Line) → All (λ l. f l ≤ c l * q) ls → sum_by f ls ≤ sum_by c ls * q
+sum_scaled : (f c : Line → ℕ) (q : ℕ) (ls : List Line) → AllByRecursion (λ l. f l ≤ c l * q) ls → sum_by f ls ≤ sum_by c ls * q
 sum_scaled f c q [] a = omega arith
 sum_scaled f c q (x ∷ xs) a =
     let p = a.0 in let r = sum_scaled f c q xs a.1 in
@@ -62,7 +62,7 @@ cond_le true x y h = h
 cond_le false x y h = omega arith
 
 -- the value of the lines that pass, of at most their contracts
-value_sum : (b : Contents) (p : Line → Bool) (f : Line → ℕ) (ls : List Line) → Sound b → All (λ l. f l ≤ l.contracts) ls → sum_by (λ l. l.contracts) ls ≤ 1000000
+value_sum : (b : Contents) (p : Line → Bool) (f : Line → ℕ) (ls : List Line) → Sound b → AllByRecursion (λ l. f l ≤ l.contracts) ls → sum_by (λ l. l.contracts) ls ≤ 1000000
     → sum_by (λ l. cond (p l) (value b l.asset (f l)) 0) ls ≤ 210000000000000000
 value_sum b p f ls s a few =
     let e = sum_scaled (λ l. cond (p l) (value b l.asset (f l)) 0) (λ l. l.contracts) 210000000000 ls
@@ -70,10 +70,10 @@ value_sum b p f ls s a few =
     (λ l h. let v = value_bound b l.asset (f l) s in cond_le (p l) (value b l.asset (f l)) (l.contracts * 210000000000) (omega (arith, v, h))) ls a) in
     omega (arith, e, few)
 
-pub bought_bound : (b : Contents) (f : Line → ℕ) (ls : List Line) (k : ℕ) → Sound b → All (λ l. f l ≤ l.contracts) ls → sum_by (λ l. l.contracts) ls ≤ 1000000 → value_bought b f ls k ≤ 210000000000000000
+pub bought_bound : (b : Contents) (f : Line → ℕ) (ls : List Line) (k : ℕ) → Sound b → AllByRecursion (λ l. f l ≤ l.contracts) ls → sum_by (λ l. l.contracts) ls ≤ 1000000 → value_bought b f ls k ≤ 210000000000000000
 bought_bound b f ls k s a few = value_sum b (λ l. eqb (buyer_agent b l) k) f ls s a few
 
-pub sold_bound : (b : Contents) (f : Line → ℕ) (ls : List Line) (k : ℕ) → Sound b → All (λ l. f l ≤ l.contracts) ls → sum_by (λ l. l.contracts) ls ≤ 1000000 → value_sold b f ls k ≤ 210000000000000000
+pub sold_bound : (b : Contents) (f : Line → ℕ) (ls : List Line) (k : ℕ) → Sound b → AllByRecursion (λ l. f l ≤ l.contracts) ls → sum_by (λ l. l.contracts) ls ≤ 1000000 → value_sold b f ls k ≤ 210000000000000000
 sold_bound b f ls k s a few = value_sum b (λ l. eqb (seller_agent b l) k) f ls s a few
 
 -- ---- nets and claims
@@ -119,7 +119,7 @@ claim_bound b t k s few =
 -- ---- units
 
 -- the units of the lines that pass, of at most their contracts
-pub units_bound : (b : Contents) (p : Line → Bool) (f : Line → ℕ) (ls : List Line) → Sound b → All (λ l. f l ≤ l.contracts) ls → sum_by (λ l. l.contracts) ls ≤ 1000000
+pub units_bound : (b : Contents) (p : Line → Bool) (f : Line → ℕ) (ls : List Line) → Sound b → AllByRecursion (λ l. f l ≤ l.contracts) ls → sum_by (λ l. l.contracts) ls ≤ 1000000
     → b.terms.multiplier * total p f ls ≤ 1000000000
 units_bound b p f ls s a few =
     let e = sum_le (λ l. cond (p l) (f l) 0) (λ l. l.contracts) ls (All-weaker (λ l. f l ≤ l.contracts) (λ l. cond (p l) (f l) 0 ≤ l.contracts) (λ l h. cond_le (p l) (f l) l.contracts h) ls a) in
@@ -151,13 +151,13 @@ lots_bound : (o : Opening) (t : Tally) → Sound o.book → Kept o t → (row a 
 lots_bound o t s k row a =
     let x = lot_part t.lots row a in let y = k.lots_within row in let z = for_sale_bound o.book row s in omega (arith, x, y, z)
 
-each_few : (ls : List Line) (n : ℕ) → sum_by (λ (l : Line). l.contracts) ls ≤ n → All (λ l. l.contracts ≤ n) ls
+each_few : (ls : List Line) (n : ℕ) → sum_by (λ (l : Line). l.contracts) ls ≤ n → AllByRecursion (λ l. l.contracts ≤ n) ls
 each_few [] n h = tt
 each_few (x ∷ xs) n h =
     let e = sum_by-cons (λ (l : Line). l.contracts) x xs in
     (omega (arith, e, h), each_few xs n (omega (arith, e, h)))
 
-values_bound : (b : Contents) (ls : List Line) → Sound b → sum_by (λ l. l.contracts) ls ≤ 1000000 → All (λ l. value b l.asset l.contracts ≤ 210000000000000000) ls
+values_bound : (b : Contents) (ls : List Line) → Sound b → sum_by (λ l. l.contracts) ls ≤ 1000000 → AllByRecursion (λ l. value b l.asset l.contracts ≤ 210000000000000000) ls
 values_bound b ls s few = All-weaker (λ l. l.contracts ≤ 1000000) (λ l. value b l.asset l.contracts ≤ 210000000000000000)
     (λ l h. let v = value_bound b l.asset l.contracts s in omega (arith, v, h)) ls (each_few ls 1000000 few)
 
@@ -191,7 +191,7 @@ sums_in_range o h p lived =
     let s = p.book in
     let k = kept o h p lived in
     let ls : List Line = t.lines in
-    let w : (f : Line → ℕ) → ((l : Line) → Sane b l → f l ≤ l.contracts) → All (λ l. f l ≤ l.contracts) ls = λ f g. All-weaker (Sane b) (λ l. f l ≤ l.contracts) g ls k.lines in
+    let w : (f : Line → ℕ) → ((l : Line) → Sane b l → f l ≤ l.contracts) → AllByRecursion (λ l. f l ≤ l.contracts) ls = λ f g. All-weaker (Sane b) (λ l. f l ≤ l.contracts) g ls k.lines in
     let settled = w (λ l. l.settled) (λ l v. let u = v.used in let x = v.within in omega arith) in
     let whole = w (λ l. l.contracts) (λ l v. omega arith) in
     record {

@@ -1,6 +1,6 @@
 -- Sums over numbers (agents, or accounts), and a sum over records taken number by number.
 use Rattle.std.proofs.Common.{◌≡◌, ℕ, zero, suc, ◌+◌, ◌<◌, ◌≤◌, Bool, true, false, cond, eqb, ◌⊎◌, List, [], ◌∷◌, sum_by, sym, refl, ap, ◌∙◌, inl, inr, arith}
-use Rattle.std.specs.List.{range_with_len, AllByRecursion as All}
+use Rattle.std.specs.List.{range_with_len, AllByRecursion}
 use Rattle.std.proofs.lemmas.List.Sums.{sum_by-cons}
 use Rattle.std.proofs.lemmas.Bool.{ne_eqb, eq-eqb, cases_eq}
 use Rattle.register.specs.Rules.{sum_to}
@@ -14,7 +14,7 @@ pub record Summing (S : (ℕ → ℕ) → ℕ) (has : ℕ → Type 0) : Type 0 w
 
 -- Each record counts at its number, so that all numbers together count each record once.
 pub parts : {X : Type 0} (S : (ℕ → ℕ) → ℕ) (has : ℕ → Type 0) → Summing S has → (g f : X → ℕ) (xs : List X)
-    → All (λ x. has (g x) ⊎ (f x ≡ 0)) xs → S (λ k. sum_by (λ x. cond (eqb (g x) k) (f x) 0) xs) ≡ sum_by f xs
+    → AllByRecursion (λ x. has (g x) ⊎ (f x ≡ 0)) xs → S (λ k. sum_by (λ x. cond (eqb (g x) k) (f x) 0) xs) ≡ sum_by f xs
 parts S has s g f [] a = s.none
 parts S has s g f (x ∷ xs) a =
     let r = parts S has s g f xs a.1 in

@@ -1,6 +1,6 @@
 -- Nothing is made or lost: the told balances of an asset add up to the opening ones and the credits.
 use Rattle.std.proofs.Common.{◌≡◌, ℕ, zero, suc, ◌+◌, ◌-◌, ◌*◌, ◌<◌, ◌≤◌, Bool, true, false, cond, ◌&&◌, eqb, ◌⊎◌, List, [], ◌∷◌, sum_by, sym, refl, ap, ◌∙◌, inl, inr, mul-zero, mul-add, arith}
-use Rattle.std.specs.List.{AllByRecursion as All}
+use Rattle.std.specs.List.{AllByRecursion}
 use Rattle.std.proofs.lemmas.List.Sums.{sum_by-cons}
 use Rattle.std.proofs.ByRecursion.{All-weaker}
 use Rattle.std.proofs.lemmas.Bool.{ne_eqb, eq-eqb, cases_eq, cases_Bool}
@@ -28,7 +28,7 @@ nested true y n = refl
 nested false y n = refl
 
 -- Number by number, where a second test goes with the record.
-pub tested_parts : {X : Type 0} (n : ℕ) (g f : X → ℕ) (p : X → Bool) (xs : List X) → All (λ x. (g x < n) ⊎ (f x ≡ 0)) xs
+pub tested_parts : {X : Type 0} (n : ℕ) (g f : X → ℕ) (p : X → Bool) (xs : List X) → AllByRecursion (λ x. (g x < n) ⊎ (f x ≡ 0)) xs
     → sum_to (λ k. sum_by (λ x. cond (eqb (g x) k && p x) (f x) 0) xs) n ≡ sum_by (λ x. cond (p x) (f x) 0) xs
 tested_parts n g f p xs a =
     (below n).same (λ k. sum_by (λ x. cond (eqb (g x) k && p x) (f x) 0) xs) (λ k. sum_by (λ x. cond (eqb (g x) k) (cond (p x) (f x) 0) 0) xs)
@@ -52,7 +52,7 @@ house_part h n p = (below n).same (λ k. at_0 k h) (λ k. cond (eqb 0 k) h 0) (�
     turn k = elim (cases_eq k 0) [ inl e ↦ rw (eq-eqb k 0 e, eq-eqb 0 k (sym e)) refl | inr e ↦ rw (ne_eqb k 0 e, ne_eqb 0 k (λ z. e (sym z))) refl ]
 
 -- All credits of an asset.
-side_parts : (side : Side) (a n : ℕ) (xs : List Credited) → All (λ (x : Credited). (same_side x.side side ≡ true) → x.account < n) xs
+side_parts : (side : Side) (a n : ℕ) (xs : List Credited) → AllByRecursion (λ (x : Credited). (same_side x.side side ≡ true) → x.account < n) xs
     → sum_to (λ k. sum_by (λ (x : Credited). cond (same_side x.side side && (eqb x.account k && eqb x.asset a)) x.amount 0) xs) n
     ≡ sum_by (λ (x : Credited). cond (same_side x.side side && eqb x.asset a) x.amount 0) xs
 side_parts side a n xs all =
@@ -89,7 +89,7 @@ balance_of_line a l h = go (eqb l.asset a)
     go true = omega arith
     go false = refl
 
-sum_two : {X : Type 0} (f g h : X → ℕ) (xs : List X) → All (λ x. f x ≡ g x + h x) xs → sum_by f xs ≡ sum_by g xs + sum_by h xs
+sum_two : {X : Type 0} (f g h : X → ℕ) (xs : List X) → AllByRecursion (λ x. f x ≡ g x + h x) xs → sum_by f xs ≡ sum_by g xs + sum_by h xs
 sum_two f g h [] a = refl
 sum_two f g h (x ∷ xs) a = let p = a.0 in let q = sum_two f g h xs a.1 in rw (sum_by-cons f x xs, sum_by-cons g x xs, sum_by-cons h x xs) (omega arith)
 
@@ -125,7 +125,7 @@ units_sum o t a p k c =
 
 -- ---- cash
 
-value_parts : (b : Contents) (who : Line → ℕ) (n : ℕ) (ls : List Line) → All (λ l. who l < n) ls
+value_parts : (b : Contents) (who : Line → ℕ) (n : ℕ) (ls : List Line) → AllByRecursion (λ l. who l < n) ls
     → sum_to (λ k. sum_by (λ l. cond (eqb (who l) k) (value b l.asset l.settled) 0) ls) n ≡ sum_by (λ l. value b l.asset l.settled) ls
 value_parts b who n ls a = parts (λ h. sum_to h n) (λ x. x < n) (below n) who (λ l. value b l.asset l.settled) ls
     (All-weaker (λ l. who l < n) (λ l. (who l < n) ⊎ (value b l.asset l.settled ≡ 0)) (λ l h. inl h) ls a)
@@ -134,7 +134,7 @@ draws_sum : (o : Opening) (t : Tally) → Opens o → Kept o t → sum_to (held 
 draws_sum o t p k = parts (λ h. sum_to h o.cash.accounts) (λ x. x < o.cash.accounts) (below o.cash.accounts) (λ (x : Drawn). x.agent) (λ x. x.amount) t.draws
     (both t.draws k.draws k.some_drawn)
   where
-    both : (ds : List Drawn) → All (λ (x : Drawn). x.amount ≡ debit o.book t.lines x.agent) ds → All (λ (x : Drawn). 0 < x.amount) ds → All (λ (x : Drawn). (x.agent < o.cash.accounts) ⊎ (x.amount ≡ 0)) ds
+    both : (ds : List Drawn) → AllByRecursion (λ (x : Drawn). x.amount ≡ debit o.book t.lines x.agent) ds → AllByRecursion (λ (x : Drawn). 0 < x.amount) ds → AllByRecursion (λ (x : Drawn). (x.agent < o.cash.accounts) ⊎ (x.amount ≡ 0)) ds
     both [] d s = tt
     both (x ∷ ds) d s = (
       inl (debit_known o.book (λ g. (0 < g) × (g < o.cash.accounts)) t.lines x.agent (agents_known o t p k) (let e = d.0 in let f = s.0 in omega (arith, e, f))).1,

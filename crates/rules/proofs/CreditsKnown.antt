@@ -1,6 +1,6 @@
 -- Accepted credits name accounts and assets that their register has, and no issue passes the most.
 use Rattle.std.proofs.Common.{◌≡◌, ℕ, ◌+◌, ◌<◌, ◌≤◌, Bool, true, false, cond, ◌&&◌, eqb, ltb, leb, List, [], ◌∷◌, is_ok, Some, None, Ok, Err, Option, sym, refl, ap, subst, inl, inr, arith}
-use Rattle.std.specs.List.{AllByRecursion as All}
+use Rattle.std.specs.List.{AllByRecursion}
 use Rattle.std.proofs.lemmas.List.Sums.{sum_by-cons}
 use Rattle.std.proofs.lemmas.Bool.{false≢true, cases_Bool, leb-false, ltb-false, cases_eq, eq-eqb, ne_eqb}
 use Rattle.register.specs.declared.fault.RegisterFault.{RegisterFault}
@@ -23,7 +23,7 @@ use Rattle.rules.proofs.Checks.{ok_checks}
 some_none : {P : Type 0} {e : RegisterFault} → Some e ≡ None → P
 some_none q = absurd (let z : ◌≡◌ {A = ℕ} 0 1 = cc in omega arith)
 
-pub none_by : (side : Side) (r : Option RegisterFault) → All (λ (x : Check). x.0 ≡ true) (by_register side r) → r ≡ None
+pub none_by : (side : Side) (r : Option RegisterFault) → AllByRecursion (λ (x : Check). x.0 ≡ true) (by_register side r) → r ≡ None
 none_by side None a = refl
 none_by side (Some e) a = absurd (false≢true a.0)
 
@@ -53,7 +53,7 @@ credit_known m account asset amount e = first (leb m.accounts account) refl e
 -- ---- along a history
 
 pub record CreditsKnown (o : Opening) (t : Tally) : Type 0 where
-  pub each : All (λ (x : Credited). (x.account < (opened o x.side).accounts) × (x.asset < (opened o x.side).assets)) t.credits
+  pub each : AllByRecursion (λ (x : Credited). (x.account < (opened o x.side).accounts) × (x.asset < (opened o x.side).assets)) t.credits
   pub issues : (side : Side) (a : ℕ) → (opened o side).issue a ≤ most → (opened o side).issue a + issued t side a ≤ most
 
 -- The same side is the side.

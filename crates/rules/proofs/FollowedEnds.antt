@@ -1,6 +1,6 @@
 -- The postings of a session's end, of pairing, of a notice and of a credit do what the tally tells.
 use Rattle.std.proofs.Common.{◌≡◌, ℕ, zero, suc, ◌+◌, ◌-◌, ◌*◌, ◌<◌, ◌≤◌, Bool, true, false, cond, ◌&&◌, eqb, ◌⊎◌, List, [], ◌∷◌, None, Option, sym, refl, ap, ◌∙◌, inl, inr, mul-zero, arith}
-use Rattle.std.specs.List.{AllByRecursion as All}
+use Rattle.std.specs.List.{AllByRecursion}
 use Rattle.std.proofs.lemmas.List.Sums.{sum_by-cons}
 use Rattle.std.proofs.ByRecursion.{All-weaker}
 use Rattle.std.proofs.lemmas.Bool.{ne_eqb, eq-eqb, cases_eq}
@@ -30,7 +30,7 @@ use Rattle.rules.proofs.Ledger.{run_follows, payouts_follow, house_units, house_
 -- ---- an end: what is held goes back
 
 -- An agent of whom something is held has a debit.
-held_known : (o : Opening) (t : Tally) (P : ℕ → Type 0) → Kept o t → All (λ l. P (buyer_agent o.book l)) t.lines → (k : ℕ) → 0 < held t k → P k
+held_known : (o : Opening) (t : Tally) (P : ℕ → Type 0) → Kept o t → AllByRecursion (λ l. P (buyer_agent o.book l)) t.lines → (k : ℕ) → 0 < held t k → P k
 held_known o t P s all k some = elim (s.drawn k) [
   | inl z ↦ absurd (omega (arith, z, some))
   | inr e ↦ debit_known o.book P t.lines k all (omega (arith, e, some))
@@ -93,14 +93,14 @@ end_follows o t u el ec ed p s v Cash = payouts_follow o t u Cash (paid_agents (
 abbrev pub Untaken : Line → Type 0
 Untaken l = (l.taken ≡ 0) × (l.settled ≡ 0) × (l.returned ≡ 0)
 
-no_sum : (p : Line → Bool) (f : Line → ℕ) (ls : List Line) → ((l : Line) → Untaken l → f l ≡ 0) → All Untaken ls → total p f ls ≡ 0
+no_sum : (p : Line → Bool) (f : Line → ℕ) (ls : List Line) → ((l : Line) → Untaken l → f l ≡ 0) → AllByRecursion Untaken ls → total p f ls ≡ 0
 no_sum p f ls none all = sum_zero (λ l. cond (p l) (f l) 0) ls (All-weaker Untaken (λ l. cond (p l) (f l) 0 ≡ 0) (λ l v. nothing (p l) (f l) (none l v)) ls all)
   where
     nothing : (c : Bool) (n : ℕ) → n ≡ 0 → cond c n 0 ≡ 0
     nothing true n e = e
     nothing false n e = refl
 
-pub unmoved : (o : Opening) (t u : Tally) → All Untaken t.lines → All Untaken u.lines → ((b : Contents) (a : ℕ) → value b a 0 ≡ 0) → u.credits ≡ t.credits → u.draws ≡ t.draws → Opens o → Kept o t → Kept o u → (side : Side)
+pub unmoved : (o : Opening) (t u : Tally) → AllByRecursion Untaken t.lines → AllByRecursion Untaken u.lines → ((b : Contents) (a : ℕ) → value b a 0 ≡ 0) → u.credits ≡ t.credits → u.draws ≡ t.draws → Opens o → Kept o t → Kept o u → (side : Side)
     → Followed side (told o t side) [] (told o u side)
 unmoved o t u at bt v0 ec ed p s v Securities =
     let m : ℕ = o.book.terms.multiplier in

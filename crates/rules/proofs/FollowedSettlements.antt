@@ -1,6 +1,6 @@
 -- The postings of a close, a whole settlement and a line settlement do what the tally tells.
 use Rattle.std.proofs.Common.{◌≡◌, ℕ, zero, suc, ◌+◌, ◌-◌, ◌*◌, ◌<◌, ◌≤◌, Bool, true, false, cond, ◌&&◌, eqb, ltb, ◌⊎◌, List, [], map, length, is_ok, sym, refl, ap, ◌∙◌, subst, inl, inr, mul-zero, mul-add, arith}
-use Rattle.std.specs.List.{AllByRecursion as All}
+use Rattle.std.specs.List.{AllByRecursion}
 use Rattle.std.proofs.lemmas.List.Sums.{sum_by-append}
 use Rattle.std.proofs.ByRecursion.{All-weaker, All-append}
 use Rattle.std.proofs.lemmas.Bool.{and_parts, not-true, ltb-false, eqb-true, ne_eqb}
@@ -32,12 +32,12 @@ use Rattle.rules.proofs.Ledger.{payouts_follow, house_units, house_cash, units_l
 -- ---- rows and assets of lines are known
 
 rows_known : (o : Opening) (t : Tally) (who : Line → ℕ) → Opens o → ((l : Line) → Sane o.book l → In 1 (length o.book.holders) (who l)) → Kept o t
-    → All (λ l. (0 < who l) × (who l < o.securities.accounts) × (l.asset < o.securities.assets)) t.lines
+    → AllByRecursion (λ l. (0 < who l) × (who l < o.securities.accounts) × (l.asset < o.securities.assets)) t.lines
 rows_known o t who p row k = All-weaker (Sane o.book) (λ l. (0 < who l) × (who l < o.securities.accounts) × (l.asset < o.securities.assets))
     (λ l v. let r = row l v in let low = r.0 in let high = r.1 in let a = v.asset in let x = (room_for o p).rows in let y = (room_for o p).assets in (omega (arith, low), omega (arith, high, x), omega (arith, a, y))) t.lines k.lines
 
 -- Nothing is in any more.
-none_in_house : (b : Contents) (f : Line → Line) (ls : List Line) (a : ℕ) → ((l : Line) → Sane b l → inside (f l) ≡ 0) → All (Sane b) ls → total (of_asset a) inside (map f ls) ≡ 0
+none_in_house : (b : Contents) (f : Line → Line) (ls : List Line) (a : ℕ) → ((l : Line) → Sane b l → inside (f l) ≡ 0) → AllByRecursion (Sane b) ls → total (of_asset a) inside (map f ls) ≡ 0
 none_in_house b f ls a none sane = map_zero (λ l. cond (of_asset a l) (inside l) 0) f ls (All-weaker (Sane b) (λ l. cond (of_asset a (f l)) (inside (f l)) 0 ≡ 0) (λ l v. nothing (of_asset a (f l)) (inside (f l)) (none l v)) ls sane)
   where
     nothing : (c : Bool) (n : ℕ) → n ≡ 0 → cond c n 0 ≡ 0
@@ -137,11 +137,11 @@ whole_units o t s v k a =
     chained gt gu gou got i hu ht out into g r n x y = omega arith
 
 -- An agent to be paid sells, so it is an agent of the book.
-credit_known : (b : Contents) (P : ℕ → Type 0) (ls : List Line) (k : ℕ) → All (λ l. P (seller_agent b l)) ls → (value_sold b (λ l. l.contracts) ls k ≡ 0) ⊎ P k
+credit_known : (b : Contents) (P : ℕ → Type 0) (ls : List Line) (k : ℕ) → AllByRecursion (λ l. P (seller_agent b l)) ls → (value_sold b (λ l. l.contracts) ls k ≡ 0) ⊎ P k
 credit_known b P ls k all = total_or (λ l. eqb (seller_agent b l) k) (λ l. value b l.asset l.contracts) (P k) ls
     (All-weaker (λ l. P (seller_agent b l)) (λ l. eqb (seller_agent b l) k ≡ true → P k) (λ l h e. subst P (eqb-true (seller_agent b l) k e) h) ls all)
 
-whole_money : (o : Opening) (t : Tally) → Sound o.book → Kept o t → Kept o (with_lines t Closed (map settle t.lines) []) → is_ok (verdict o t call.SettleWhole) ≡ true → All Full t.lines → All Untouched t.lines → (k a : ℕ)
+whole_money : (o : Opening) (t : Tally) → Sound o.book → Kept o t → Kept o (with_lines t Closed (map settle t.lines) []) → is_ok (verdict o t call.SettleWhole) ≡ true → AllByRecursion Full t.lines → AllByRecursion Untouched t.lines → (k a : ℕ)
     → money o (with_lines t Closed (map settle t.lines) []) k a + leaves Cash k a (postings o t call.SettleWhole) ≡ money o t k a + enters Cash k a (postings o t call.SettleWhole)
 whole_money o t d s v e full un k zero =
     let m : ℕ = o.book.terms.multiplier in

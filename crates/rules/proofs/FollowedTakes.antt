@@ -1,6 +1,6 @@
 -- The postings of a take and of a draw do what the tally tells.
 use Rattle.std.proofs.Common.{◌≡◌, ℕ, zero, suc, ◌+◌, ◌-◌, ◌*◌, ◌/◌, ◌<◌, ◌≤◌, min, Bool, true, false, cond, ◌&&◌, eqb, leb, List, [], ◌∷◌, None, sum_by, sym, refl, ap, ◌∙◌, inl, inr, div-lt_iff_lt-mul, mul-add, arith}
-use Rattle.std.specs.List.{AllByRecursion as All}
+use Rattle.std.specs.List.{AllByRecursion}
 use Rattle.std.proofs.lemmas.List.Sums.{sum_by-cons}
 use Rattle.std.proofs.lemmas.Bool.{ne_eqb, eq-eqb, cases_eq, cases_lt, leb-true, le-leb, false≢true}
 use Rattle.register.specs.Rules.{transfer_refused, with_move}
@@ -28,7 +28,7 @@ step true free n rest h = (omega arith, omega arith)
 step false free n rest h = (omega arith, omega arith)
 
 -- Outstanding contracts that are taken are all found on the lines.
-take_sum : (P : Line → Type 0) (f : Line → ℕ) (row a n : ℕ) (ls : List Line) → ((q : ℕ) (l : Line) → P l → f (loaded row a q l) ≡ f l + here row a q l) → All P ls
+take_sum : (P : Line → Type 0) (f : Line → ℕ) (row a n : ℕ) (ls : List Line) → ((q : ℕ) (l : Line) → P l → f (loaded row a q l) ≡ f l + here row a q l) → AllByRecursion P ls
     → n ≤ outstanding ls row a → sum_by f (take_on row a n ls) ≡ sum_by f ls + n
 take_sum P f row a n [] e all h = omega (arith, h)
 take_sum P f row a n (x ∷ xs) e all h =
@@ -69,7 +69,7 @@ in_kept row a x apart q l = elim (cases_eq l.asset x) [
 
 -- ---- a take of n contracts
 
-take_gave : (b : Contents) (row a n : ℕ) (ls : List Line) → All (Sane b) ls → n ≤ outstanding ls row a → (k x : ℕ) → gave (take_on row a n ls) k x ≡ gave ls k x + cond (eqb row k && eqb a x) n 0
+take_gave : (b : Contents) (row a n : ℕ) (ls : List Line) → AllByRecursion (Sane b) ls → n ≤ outstanding ls row a → (k x : ℕ) → gave (take_on row a n ls) k x ≡ gave ls k x + cond (eqb row k && eqb a x) n 0
 take_gave b row a n ls sane h k x = elim (cases_eq row k) [
   | inr e ↦ take_kept (λ l. cond (of_seller k x l) (l.taken - l.returned) 0) row a n ls (gave_kept row a k x (λ w. e (sym w.0))) ∙ rw (ne_eqb row k e) (omega arith)
   | inl e ↦ elim (cases_eq a x) [
@@ -80,7 +80,7 @@ take_gave b row a n ls sane h k x = elim (cases_eq row k) [
   ]
 ]
 
-take_in : (b : Contents) (row a n : ℕ) (ls : List Line) → All (Sane b) ls → n ≤ outstanding ls row a → (x : ℕ) → total (of_asset x) inside (take_on row a n ls) ≡ total (of_asset x) inside ls + cond (eqb a x) n 0
+take_in : (b : Contents) (row a n : ℕ) (ls : List Line) → AllByRecursion (Sane b) ls → n ≤ outstanding ls row a → (x : ℕ) → total (of_asset x) inside (take_on row a n ls) ≡ total (of_asset x) inside ls + cond (eqb a x) n 0
 take_in b row a n ls sane h x = elim (cases_eq a x) [
   | inr f ↦ take_kept (λ l. cond (of_asset x l) (inside l) 0) row a n ls (in_kept row a x (λ w. f (sym w))) ∙ rw (ne_eqb a x f) (omega arith)
   | inl f ↦ ap (λ z. total (of_asset z) inside (take_on row a n ls)) (sym f)

@@ -1,6 +1,6 @@
 -- What every tally keeps, whatever was called.
 use Rattle.std.proofs.Common.{◌≡◌, ℕ, ◌+◌, ◌-◌, ◌*◌, ◌<◌, ◌≤◌, cond, eqb, ◌⊎◌, List, [], map, length, sum_by}
-use Rattle.std.specs.List.{AllByRecursion as All}
+use Rattle.std.specs.List.{AllByRecursion}
 use Rattle.pairing.specs.declared.line.Line.{Line}
 use Rattle.rules.specs.declared.side.Side.{Side}
 use Rattle.rules.specs.declared.side.Side.TheVariants.{Securities, Cash}
@@ -28,7 +28,7 @@ for_sale b row = cond (sells (holder b row)) (volume (holder b row)) 0
 -- Lots that make up each seller's volume, in assets of the book.
 pub record FullLots (b : Contents) (lots : List Lot) : Type 0 where
   pub volumes : (row : ℕ) → in_lots lots row ≡ for_sale b row
-  pub assets : All (λ x. x.asset < length b.assets) lots
+  pub assets : AllByRecursion (λ x. x.asset < length b.assets) lots
 
 -- Contracts that the row k gave of the asset a and did not get back, and those that it got.
 abbrev pub gave : List Line → ℕ → ℕ → ℕ
@@ -59,17 +59,17 @@ pub record Kept (o : Opening) (t : Tally) : Type 0 where
   -- a seller's lots never pass its volume, and make it up from session 3 on; nobody else has lots
   pub lots_within : (row : ℕ) → in_lots t.lots row ≤ for_sale o.book row
   pub lots_full : 3 ≤ session_number t.session → (row : ℕ) → in_lots t.lots row ≡ for_sale o.book row
-  pub lots_assets : All (λ x. x.asset < length o.book.assets) t.lots
+  pub lots_assets : AllByRecursion (λ x. x.asset < length o.book.assets) t.lots
   -- before pairing there are no lines
   pub no_lines : session_number t.session < 4 → t.lines ≡ []
   -- after it the lines are those of the lots, but for their counts
   pub paired : 4 ≤ session_number t.session → map anew t.lines ≡ map anew (lines_of o.book t.lots)
-  pub lines : All (Sane o.book) t.lines
+  pub lines : AllByRecursion (Sane o.book) t.lines
   pub few : sum_by (λ l. l.contracts) t.lines ≤ 1000000
-  pub untouched : session_number t.session ≤ 4 → All Untouched t.lines
-  pub none_in : session_number t.session ≡ 6 → All NoneIn t.lines
+  pub untouched : session_number t.session ≤ 4 → AllByRecursion Untouched t.lines
+  pub none_in : session_number t.session ≡ 6 → AllByRecursion NoneIn t.lines
   -- what is closed by differences, which is nothing before the end
-  pub closed : All (Sane o.book) t.closed
+  pub closed : AllByRecursion (Sane o.book) t.closed
   pub closed_few : sum_by (λ l. l.contracts) t.closed ≤ 1000000
   pub not_closed : session_number t.session < 6 → t.closed ≡ []
   pub finished : session_number t.session ≡ 6 → (i : ℕ) → (line t i).settled + closed_on t i ≡ (line t i).contracts
@@ -77,8 +77,8 @@ pub record Kept (o : Opening) (t : Tally) : Type 0 where
   pub draws_before : session_number t.session < 4 → t.draws ≡ []
   pub draws_after : 4 < session_number t.session → t.draws ≡ []
   pub drawn : (agent : ℕ) → (held t agent ≡ 0) ⊎ (held t agent ≡ debit o.book t.lines agent)
-  pub draws : All (λ x. x.amount ≡ debit o.book t.lines x.agent) t.draws
-  pub some_drawn : All (λ x. 0 < x.amount) t.draws
+  pub draws : AllByRecursion (λ x. x.amount ≡ debit o.book t.lines x.agent) t.draws
+  pub some_drawn : AllByRecursion (λ x. 0 < x.amount) t.draws
   pub once : (agent : ℕ) → sum_by (λ x. cond (eqb x.agent agent) 1 0) t.draws ≤ 1
   -- account 0 is never credited
   pub house : (side : Side) (a : ℕ) → credited t side 0 a ≡ 0

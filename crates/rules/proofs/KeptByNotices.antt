@@ -1,6 +1,6 @@
 -- The invariant holds after a notice, a session's end and pairing.
 use Rattle.std.proofs.Common.{◌≡◌, ℕ, zero, suc, ◌+◌, ◌-◌, ◌*◌, ◌<◌, ◌≤◌, Bool, true, false, cond, eqb, List, [], ◌∷◌, ◌++◌, length, get_or, sym, refl, ap, ◌∙◌, inl, inr, mul-zero, arith}
-use Rattle.std.specs.List.{AllByRecursion as All}
+use Rattle.std.specs.List.{AllByRecursion}
 use Rattle.std.proofs.lemmas.List.Sums.{sum_by-cons, sum_by-append}
 use Rattle.std.proofs.ByRecursion.{All-weaker, All-append}
 use Rattle.std.proofs.lemmas.Bool.{ne_eqb, eq-eqb, cases_eq}
@@ -76,7 +76,7 @@ added_at r (h ∷ hs) a lots (suc j) k e =
     in_lots_cons (record { row = r; asset = a; contracts = cond (sells h) (unnotified lots r h) 0 }) (added_from (r + 1) hs a lots) k
     ∙ rw (ne_eqb r k (λ z. omega arith)) (omega (arith, q))
 
-added_assets : (r : ℕ) (hs : List Holder) (a : ℕ) (lots : List Lot) (n : ℕ) → a < n → All (λ (x : Lot). x.asset < n) (added_from r hs a lots)
+added_assets : (r : ℕ) (hs : List Holder) (a : ℕ) (lots : List Lot) (n : ℕ) → a < n → AllByRecursion (λ (x : Lot). x.asset < n) (added_from r hs a lots)
 added_assets r [] a lots n p = tt
 added_assets r (h ∷ hs) a lots n p = (p, added_assets (r + 1) hs a lots n p)
 
@@ -185,7 +185,7 @@ kept_pair o t e made s =
     let b : Contents = o.book in
     let m : ℕ = b.terms.multiplier in
     let ls : List Line = lines_of b t.lots in
-    let un : All Untouched ls = All-weaker (MadeLine b) Untouched (λ l v. (v.settled, v.returned)) ls made.each in
+    let un : AllByRecursion Untouched ls = All-weaker (MadeLine b) Untouched (λ l v. (v.settled, v.returned)) ls made.each in
     let dr = s.draws_before (omega arith) in
     let nil : (agent : ℕ) → held t agent ≡ 0 = λ agent. rw dr refl in
     record {

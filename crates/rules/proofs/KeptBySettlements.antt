@@ -1,6 +1,6 @@
 -- The invariant holds after a line settlement, a whole settlement and a close.
 use Rattle.std.proofs.Common.{◌≡◌, ℕ, zero, suc, ◌+◌, ◌-◌, ◌*◌, ◌<◌, ◌≤◌, Bool, true, false, cond, eqb, ◌⊎◌, List, [], ◌∷◌, map, length, get_or, set, sum_by, sym, refl, ap, ◌∙◌, inl, inr, mul-le-mul_left, arith}
-use Rattle.std.specs.List.{AllByRecursion as All}
+use Rattle.std.specs.List.{AllByRecursion}
 use Rattle.std.proofs.lemmas.List.Sums.{sum_by-set}
 use Rattle.std.proofs.ByRecursion.{All-get_or, All-weaker, All-set, All-map}
 use Rattle.std.proofs.lemmas.Bool.{ne_eqb, eq-eqb, eqb-true, cases_eq, cases_lt}
@@ -96,7 +96,7 @@ kept_line o t i s5 lt cov s =
 
 -- ---- the close
 -- by its number a line is settled as far as it is not closed
-rest_closed : (ls : List Line) → All (λ l. l.settled ≤ l.contracts) ls → (i : ℕ) → (get_or (no_line ∷ ls) i no_line).settled + unsettled (get_or (no_line ∷ ls) i no_line) ≡ (get_or (no_line ∷ ls) i no_line).contracts
+rest_closed : (ls : List Line) → AllByRecursion (λ l. l.settled ≤ l.contracts) ls → (i : ℕ) → (get_or (no_line ∷ ls) i no_line).settled + unsettled (get_or (no_line ∷ ls) i no_line) ≡ (get_or (no_line ∷ ls) i no_line).contracts
 rest_closed ls a zero = refl
 rest_closed ls a (suc j) = elim (cases_lt j (length ls)) [
   | inl lt ↦ let h = All-get_or (λ l. l.settled ≤ l.contracts) ls j no_line lt a in omega (arith, h)
@@ -153,27 +153,27 @@ Full l = (l.settled ≡ 0) × (l.returned ≡ 0) × (l.taken ≡ l.contracts)
 full_value : (b : Contents) (p : Line → Bool) (l : Line) → Full l → cond (p l) (value b l.asset (l.settled + inside l)) 0 ≡ cond (p l) (value b l.asset l.contracts) 0
 full_value b p l f = let e : l.settled + inside l ≡ l.contracts = omega arith in ap (λ z. cond (p l) (value b l.asset z) 0) e
 
-pub all_full : (ls : List Line) → All Untouched ls → All (λ l. l.contracts ≤ l.taken) ls → All (λ l. l.taken ≤ l.contracts) ls → All Full ls
+pub all_full : (ls : List Line) → AllByRecursion Untouched ls → AllByRecursion (λ l. l.contracts ≤ l.taken) ls → AllByRecursion (λ l. l.taken ≤ l.contracts) ls → AllByRecursion Full ls
 all_full [] u t w = tt
 all_full (x ∷ xs) u t w = ((u.0.0, u.0.1, let p = t.0 in let q = w.0 in omega arith), all_full xs u.1 t.1 w.1)
 
 -- Where all is settled at once, the value settled is the value of all contracts, for each agent.
-pub whole_spent : (b : Contents) (ls : List Line) (k : ℕ) → All Full ls → spent b (map settle ls) k ≡ value_bought b (λ l. l.contracts) ls k
+pub whole_spent : (b : Contents) (ls : List Line) (k : ℕ) → AllByRecursion Full ls → spent b (map settle ls) k ≡ value_bought b (λ l. l.contracts) ls k
 whole_spent b ls k full = map_same (λ l. cond (eqb (buyer_agent b l) k) (value b l.asset l.settled) 0) (λ l. cond (eqb (buyer_agent b l) k) (value b l.asset l.contracts) 0) settle ls
     (All-weaker Full (λ l. cond (eqb (buyer_agent b l) k) (value b l.asset (l.settled + inside l)) 0 ≡ cond (eqb (buyer_agent b l) k) (value b l.asset l.contracts) 0) (full_value b (λ l. eqb (buyer_agent b l) k)) ls full)
 
-pub whole_earned : (b : Contents) (ls : List Line) (k : ℕ) → All Full ls → earned b (map settle ls) k ≡ value_sold b (λ l. l.contracts) ls k
+pub whole_earned : (b : Contents) (ls : List Line) (k : ℕ) → AllByRecursion Full ls → earned b (map settle ls) k ≡ value_sold b (λ l. l.contracts) ls k
 whole_earned b ls k full = map_same (λ l. cond (eqb (seller_agent b l) k) (value b l.asset l.settled) 0) (λ l. cond (eqb (seller_agent b l) k) (value b l.asset l.contracts) 0) settle ls
     (All-weaker Full (λ l. cond (eqb (seller_agent b l) k) (value b l.asset (l.settled + inside l)) 0 ≡ cond (eqb (seller_agent b l) k) (value b l.asset l.contracts) 0) (full_value b (λ l. eqb (seller_agent b l) k)) ls full)
 
-pub unspent : (b : Contents) (p : Line → Bool) (ls : List Line) → All Untouched ls → sum_by (λ l. cond (p l) (value b l.asset l.settled) 0) ls ≡ 0
+pub unspent : (b : Contents) (p : Line → Bool) (ls : List Line) → AllByRecursion Untouched ls → sum_by (λ l. cond (p l) (value b l.asset l.settled) 0) ls ≡ 0
 unspent b p ls u = sum_zero (λ l. cond (p l) (value b l.asset l.settled) 0) ls (All-weaker Untouched (λ l. cond (p l) (value b l.asset l.settled) 0 ≡ 0) (λ l v. ap (λ z. cond (p l) (value b l.asset z) 0) v.0 ∙ (ap (λ z. cond (p l) z 0) (value_zero b l.asset) ∙ nil (p l))) ls u)
   where
     nil : (c : Bool) → cond {A = ℕ} c 0 0 ≡ 0
     nil true = refl
     nil false = refl
 
-settled_whole : (ls : List Line) → All (λ l. l.settled ≡ l.contracts) ls → (i : ℕ) → (get_or (no_line ∷ ls) i no_line).settled + 0 ≡ (get_or (no_line ∷ ls) i no_line).contracts
+settled_whole : (ls : List Line) → AllByRecursion (λ l. l.settled ≡ l.contracts) ls → (i : ℕ) → (get_or (no_line ∷ ls) i no_line).settled + 0 ≡ (get_or (no_line ∷ ls) i no_line).contracts
 settled_whole ls a zero = refl
 settled_whole ls a (suc j) = elim (cases_lt j (length ls)) [
   | inl lt ↦ let h = All-get_or (λ l. l.settled ≡ l.contracts) ls j no_line lt a in omega (arith, h)
@@ -185,8 +185,8 @@ none_closed zero = refl
 none_closed (suc j) = refl
 
 pub kept_whole : (o : Opening) (t : Tally) → session_number t.session ≡ 4
-    → All (λ l. l.contracts ≤ l.taken) t.lines
-    → All (λ l. debit o.book t.lines (buyer_agent o.book l) ≤ held t (buyer_agent o.book l)) t.lines
+    → AllByRecursion (λ l. l.contracts ≤ l.taken) t.lines
+    → AllByRecursion (λ l. debit o.book t.lines (buyer_agent o.book l) ≤ held t (buyer_agent o.book l)) t.lines
     → Kept o t → Kept o (with_lines t Closed (map settle t.lines) [])
 kept_whole o t s4 taken drawn s =
     let b : Contents = o.book in

@@ -1,6 +1,6 @@
 -- The invariant holds after a take and after a draw.
 use Rattle.std.proofs.Common.{◌≡◌, ℕ, ◌+◌, ◌-◌, ◌*◌, ◌<◌, ◌≤◌, Bool, true, false, cond, eqb, List, ◌∷◌, sum_by, sym, refl, ap, ◌∙◌, inl, inr, mul-le-mul_left, mul-add, arith}
-use Rattle.std.specs.List.{AllByRecursion as All}
+use Rattle.std.specs.List.{AllByRecursion}
 use Rattle.std.proofs.lemmas.List.Sums.{sum_by-cons}
 use Rattle.std.proofs.lemmas.Bool.Decides.{nat_tests}
 use Rattle.std.proofs.ByRecursion.{All-weaker}
@@ -97,14 +97,14 @@ kept_take o t row a n s4 s5 cov s =
     }
 
 -- an agent of whom nothing is held was not drawn yet
-count_le : (ds : List Drawn) (k : ℕ) → All (λ x. 0 < x.amount) ds → sum_by (λ (x : Drawn). cond (eqb x.agent k) 1 0) ds ≤ sum_by (λ (x : Drawn). cond (eqb x.agent k) x.amount 0) ds
+count_le : (ds : List Drawn) (k : ℕ) → AllByRecursion (λ x. 0 < x.amount) ds → sum_by (λ (x : Drawn). cond (eqb x.agent k) 1 0) ds ≤ sum_by (λ (x : Drawn). cond (eqb x.agent k) x.amount 0) ds
 count_le ds k a = sum_le (λ (x : Drawn). cond (eqb x.agent k) 1 0) (λ x. cond (eqb x.agent k) x.amount 0) ds (All-weaker (λ (x : Drawn). 0 < x.amount) (λ x. cond (eqb x.agent k) 1 0 ≤ cond (eqb x.agent k) x.amount 0) (λ x h. both (eqb x.agent k) x.amount h) ds a)
   where
     both : (c : Bool) (n : ℕ) → 0 < n → cond c 1 0 ≤ cond c n 0
     both true n h = omega arith
     both false n h = omega arith
 
-once_more : (ds : List Drawn) (x : Drawn) (k : ℕ) → All (λ y. 0 < y.amount) ds → sum_by (λ (y : Drawn). cond (eqb y.agent k) 1 0) ds ≤ 1
+once_more : (ds : List Drawn) (x : Drawn) (k : ℕ) → AllByRecursion (λ y. 0 < y.amount) ds → sum_by (λ (y : Drawn). cond (eqb y.agent k) 1 0) ds ≤ 1
     → sum_by (λ (y : Drawn). cond (eqb y.agent x.agent) y.amount 0) ds ≡ 0 → sum_by (λ (y : Drawn). cond (eqb y.agent k) 1 0) (x ∷ ds) ≤ 1
 once_more ds x k a one none =
     let e = sum_by-cons (λ (y : Drawn). cond (eqb y.agent k) 1 0) x ds in

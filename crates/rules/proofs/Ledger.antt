@@ -1,6 +1,6 @@
 -- The told balances change by what goes out and comes in: from the counts of lines before and after, for units and for cash.
 use Rattle.std.proofs.Common.{◌≡◌, ℕ, suc, ◌+◌, ◌*◌, ◌<◌, Bool, true, false, cond, ◌&&◌, eqb, List, [], ◌∷◌, sym, refl, ap, ◌∙◌, inl, inr, mul-add, arith}
-use Rattle.std.specs.List.{AllByRecursion as All}
+use Rattle.std.specs.List.{AllByRecursion}
 use Rattle.std.proofs.lemmas.List.Sums.{sum_by-cons}
 use Rattle.std.proofs.lemmas.Bool.{ne_eqb, eq-eqb, cases_eq}
 use Rattle.book.specs.Books.{Sound}
@@ -29,7 +29,7 @@ run_follows o t u side ps r e ledger = record {
 }
 
 -- Payouts bring nothing into account 0.
-payouts_leave : (side : Side) (n s a : ℕ) (ps : List Posting) → All (Payout side n s) ps → enters side 0 a ps ≡ 0
+payouts_leave : (side : Side) (n s a : ℕ) (ps : List Posting) → AllByRecursion (Payout side n s) ps → enters side 0 a ps ≡ 0
 payouts_leave side n s a [] all = refl
 payouts_leave side n s a (credits on account asset amount ∷ ps) all = absurd all.0
 payouts_leave side n s a (moves on giver taker asset amount ∷ ps) all =
@@ -41,7 +41,7 @@ payouts_leave side n s a (moves on giver taker asset amount ∷ ps) all =
     go false h = omega arith
 
 -- So account 0 covers what it pays out, where the ledger is right.
-pub payouts_follow : (o : Opening) (t u : Tally) (side : Side) (ps : List Posting) → All (Payout side (opened o side).accounts (opened o side).assets) ps → u.credits ≡ t.credits
+pub payouts_follow : (o : Opening) (t u : Tally) (side : Side) (ps : List Posting) → AllByRecursion (Payout side (opened o side).accounts (opened o side).assets) ps → u.credits ≡ t.credits
     → ((k a : ℕ) → balance o u side k a + leaves side k a ps ≡ balance o t side k a + enters side k a ps) → Followed side (told o t side) ps (told o u side)
 payouts_follow o t u side ps all e ledger =
     run_follows o t u side ps

@@ -1,6 +1,6 @@
 -- What pairing makes of a sound book whose sellers' contracts are all in lots.
 use Rattle.std.proofs.Common.{◌≡◌, ℕ, ◌*◌, ◌<◌, ◌≤◌, true, List, length, sum_by, refl}
-use Rattle.std.specs.List.{AllByRecursion as All}
+use Rattle.std.specs.List.{AllByRecursion}
 use Rattle.std.proofs.ByRecursion.{All-weaker}
 use Rattle.book.specs.Books.{Contents, Sound, In, holder, buys, sells}
 use Rattle.pairing.specs.declared.line.Line.{Line}
@@ -23,7 +23,7 @@ pub record MadeLine (b : Contents) (l : Line) : Type 0 where
   pub returned : l.returned ≡ 0
 
 pub record MadeLines (b : Contents) (lots : List Lot) (ls : List Line) : Type 0 where
-  pub each : All (MadeLine b) ls
+  pub each : AllByRecursion (MadeLine b) ls
   pub contracts : sum_by (λ l. l.contracts) ls ≤ 1000000
   pub few : length ls ≤ 4 * length b.holders
   pub in_lots : (row asset : ℕ) → sells (holder b row) ≡ true → asset < length b.assets → total (of_seller row asset) (λ l. l.contracts) ls ≡ lot lots row asset

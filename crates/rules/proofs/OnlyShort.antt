@@ -1,7 +1,7 @@
 -- A due take, draw or line settlement meets no other refusal of a register than short, and that where it is not covered.
 use Rattle.std.proofs.Common.{◌≡◌, ℕ, zero, suc, ◌*◌, ◌/◌, ◌<◌, ◌≤◌, min, Bool, true, false, cond, eqb, ltb, leb, List, length, get_or, Some, None, refl, ap, ◌∙◌, subst, inl, inr, mul-le-mul, mul-le-mul_left, arith}
 use native.Mathlib.Nat.{mul-div-le}
-use Rattle.std.specs.List.{AllByRecursion as All}
+use Rattle.std.specs.List.{AllByRecursion}
 use Rattle.std.proofs.ByRecursion.{All-weaker, All-get_or}
 use Rattle.std.proofs.lemmas.List.{get_or_past}
 use Rattle.std.proofs.lemmas.Bool.{and_parts, ltb-true, eqb-true, eq-eqb, ne_eqb, cases_lt, cases_eq, le-leb}
@@ -41,7 +41,7 @@ value_some b a n s lt p = product_some (n * b.terms.multiplier) (invoice b a) (p
 -- ---- who has something due is in the book
 
 -- The seller and the asset of outstanding contracts.
-pub outstanding_known : (b : Contents) (ls : List Line) (row a : ℕ) → All (Sane b) ls → 0 < outstanding ls row a → In 1 (length b.holders) row × (a < length b.assets)
+pub outstanding_known : (b : Contents) (ls : List Line) (row a : ℕ) → AllByRecursion (Sane b) ls → 0 < outstanding ls row a → In 1 (length b.holders) row × (a < length b.assets)
 outstanding_known b ls row a sane some =
     elim (total_or (of_seller row a) open_on (In 1 (length b.holders) row × (a < length b.assets)) ls
     (All-weaker (Sane b) (λ l. of_seller row a l ≡ true → In 1 (length b.holders) row × (a < length b.assets))
@@ -50,14 +50,14 @@ outstanding_known b ls row a sane some =
     [ inl z ↦ absurd (omega (arith, z, some)) | inr p ↦ p ]
 
 -- What holds of every buyer's agent holds of an agent with a debit.
-pub debit_known : (b : Contents) (P : ℕ → Type 0) (ls : List Line) (k : ℕ) → All (λ l. P (buyer_agent b l)) ls → 0 < debit b ls k → P k
+pub debit_known : (b : Contents) (P : ℕ → Type 0) (ls : List Line) (k : ℕ) → AllByRecursion (λ l. P (buyer_agent b l)) ls → 0 < debit b ls k → P k
 debit_known b P ls k all some =
     elim (total_or (λ l. eqb (buyer_agent b l) k) (λ l. value b l.asset l.contracts) (P k) ls
     (All-weaker (λ l. P (buyer_agent b l)) (λ l. eqb (buyer_agent b l) k ≡ true → P k) (λ l h e. subst P (eqb-true (buyer_agent b l) k e) h) ls all))
     [ inl z ↦ absurd (omega (arith, z, some)) | inr p ↦ p ]
 
 -- A line with contracts in is one of the lines.
-pub line_known : (b : Contents) (t : Tally) (i : ℕ) → All (Sane b) t.lines → 0 < inside (line t i) → Sane b (line t i)
+pub line_known : (b : Contents) (t : Tally) (i : ℕ) → AllByRecursion (Sane b) t.lines → 0 < inside (line t i) → Sane b (line t i)
 line_known b t zero sane some = absurd (omega arith)
 line_known b t (suc j) sane some = elim (cases_lt j (length t.lines)) [
   | inl lt ↦ All-get_or (Sane b) t.lines j no_line lt sane
@@ -105,7 +105,7 @@ take_short o t row a p k some =
     (product_some m (asked o t row a) p.book.multiplier.0 (some_asked (cond (in_session PartialDelivery t) (min due (units o t row a / m)) due)))
     ∙ ap (λ (c : Bool). cond c None (Some Short)) (asked_covered (in_session PartialDelivery t) m due (units o t row a) p.book.multiplier.0 some)
 
-pub agents_known : (o : Opening) (t : Tally) → Opens o → Kept o t → All (λ l. (0 < buyer_agent o.book l) × (buyer_agent o.book l < o.cash.accounts)) t.lines
+pub agents_known : (o : Opening) (t : Tally) → Opens o → Kept o t → AllByRecursion (λ l. (0 < buyer_agent o.book l) × (buyer_agent o.book l < o.cash.accounts)) t.lines
 agents_known o t p k = All-weaker (Sane o.book) (λ l. (0 < buyer_agent o.book l) × (buyer_agent o.book l < o.cash.accounts))
     (λ l v. ((agent_in o.book p.book l.buyer v.buyer).0, (room_for o p).agents l.buyer v.buyer)) t.lines k.lines
 

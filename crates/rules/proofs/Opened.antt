@@ -1,6 +1,6 @@
 -- What an opening has that was not refused: room for the book in both registers, and a house that holds nothing.
 use Rattle.std.proofs.Common.{◌≡◌, ℕ, ◌*◌, ◌<◌, ◌≤◌, Bool, true, false, not, eqb, ltb, leb, List, [], ◌∷◌, length, None, refl, arith}
-use Rattle.std.specs.List.{AllByRecursion as All}
+use Rattle.std.specs.List.{AllByRecursion}
 use Rattle.std.proofs.lemmas.Bool.{and_parts, not-true, leb-true, leb-false, ltb-true}
 use Rattle.std.proofs.lemmas.Bool.Decides.{Decides-below_and, Decides-eqb}
 use Rattle.register.specs.Rules.{Meaning}
@@ -14,13 +14,13 @@ use Rattle.rules.proofs.Checks.{not_any}
 use Rattle.rules.proofs.Balances.{rows_all}
 
 -- where no check failed, each passed
-pub passed : {E : Type 0} (cs : List (Bool × E)) → first_failed cs ≡ None → All (λ (x : Bool × E). x.0 ≡ true) cs
+pub passed : {E : Type 0} (cs : List (Bool × E)) → first_failed cs ≡ None → AllByRecursion (λ (x : Bool × E). x.0 ≡ true) cs
 passed [] h = tt
 passed ((true, e) ∷ rest) h = (refl, passed rest h)
 passed ((false, e) ∷ rest) h = absurd (let z : ◌≡◌ {A = ℕ} 0 1 = cc in omega arith)
 
 -- and the other way
-pub none_failed : {E : Type 0} (cs : List (Bool × E)) → All (λ (x : Bool × E). x.0 ≡ true) cs → first_failed cs ≡ None
+pub none_failed : {E : Type 0} (cs : List (Bool × E)) → AllByRecursion (λ (x : Bool × E). x.0 ≡ true) cs → first_failed cs ≡ None
 none_failed [] a = refl
 none_failed ((true, e) ∷ rest) a = none_failed rest a.1
 none_failed ((false, e) ∷ rest) a = absurd (let z : ◌≡◌ {A = ℕ} 0 1 = cc in omega arith)
@@ -47,7 +47,7 @@ room_for o p =
     let q = passed (opening_checks o) p.not_refused in
     let s = and_parts (ltb (length b.holders) o.securities.accounts) (leb (length b.assets) o.securities.assets) q.1.1.0 in
     let c = and_parts (not (any (λ h. leb o.cash.accounts h.agent) b.holders)) (ltb 0 o.cash.assets) q.1.1.1.0 in
-    let each : All (λ (h : Holder). h.agent < o.cash.accounts) b.holders =
+    let each : AllByRecursion (λ (h : Holder). h.agent < o.cash.accounts) b.holders =
     not_any (λ h. leb o.cash.accounts h.agent) (λ h. h.agent < o.cash.accounts) (λ h f. leb-false o.cash.accounts h.agent f) b.holders (not-true (any (λ h. leb o.cash.accounts h.agent) b.holders) c.0) in
     record {
       places = leb-true (lines_a_holder * length b.holders) (length o.table) q.1.0;

@@ -1,6 +1,6 @@
 -- What account 0 pays out line by line and agent by agent: what leaves it, and what enters each account.
 use Rattle.std.proofs.Common.{◌≡◌, ℕ, suc, ◌+◌, ◌*◌, ◌<◌, ◌≤◌, Bool, true, false, cond, ◌&&◌, eqb, ◌⊎◌, List, [], ◌∷◌, sum_by, sym, refl, ap, ◌∙◌, inl, inr, mul-zero, mul-add, arith}
-use Rattle.std.specs.List.{range_with_len, AllByRecursion as All}
+use Rattle.std.specs.List.{range_with_len, AllByRecursion}
 use Rattle.std.proofs.lemmas.List.Sums.{sum_by-cons}
 use Rattle.std.proofs.ByRecursion.{All-weaker}
 use Rattle.std.proofs.lemmas.Bool.{ne_eqb, eq-eqb, cases_eq, false≢true}
@@ -61,14 +61,14 @@ lines_no_cash m who ls k a = (
     none : sum_by (λ (l : Line). 0) ls ≡ 0
     none = sum_zero (λ (l : Line). 0) ls (all_of (λ (l : Line). ◌≡◌ {A = ℕ} 0 0) (λ l. refl) ls)
 
-pub lines_payouts : (m accounts assets : ℕ) (who : Line → ℕ) (ls : List Line) → All (λ l. (0 < who l) × (who l < accounts) × (l.asset < assets)) ls → All (Payout Securities accounts assets) (paid m who ls)
+pub lines_payouts : (m accounts assets : ℕ) (who : Line → ℕ) (ls : List Line) → AllByRecursion (λ l. (0 < who l) × (who l < accounts) × (l.asset < assets)) ls → AllByRecursion (Payout Securities accounts assets) (paid m who ls)
 lines_payouts m accounts assets who ls all = each_all (Payout Securities accounts assets) (λ l. pays Securities (who l) l.asset (m * inside l)) ls
-    (All-weaker (λ l. (0 < who l) × (who l < accounts) × (l.asset < assets)) (λ l. All (Payout Securities accounts assets) (pays Securities (who l) l.asset (m * inside l)))
+    (All-weaker (λ l. (0 < who l) × (who l < accounts) × (l.asset < assets)) (λ l. AllByRecursion (Payout Securities accounts assets) (pays Securities (who l) l.asset (m * inside l)))
     (λ l h. pays_payout Securities Securities accounts assets (who l) l.asset (m * inside l) (λ _ _. h)) ls all)
 
-pub lines_no_payouts : (m accounts assets : ℕ) (who : Line → ℕ) (ls : List Line) → All (Payout Cash accounts assets) (paid m who ls)
+pub lines_no_payouts : (m accounts assets : ℕ) (who : Line → ℕ) (ls : List Line) → AllByRecursion (Payout Cash accounts assets) (paid m who ls)
 lines_no_payouts m accounts assets who ls = each_all (Payout Cash accounts assets) (λ l. pays Securities (who l) l.asset (m * inside l)) ls
-    (all_of (λ l. All (Payout Cash accounts assets) (pays Securities (who l) l.asset (m * inside l)))
+    (all_of (λ l. AllByRecursion (Payout Cash accounts assets) (pays Securities (who l) l.asset (m * inside l)))
     (λ l. pays_payout Cash Securities accounts assets (who l) l.asset (m * inside l) (λ _ e. absurd (false≢true e))) ls)
 
 -- ---- agent by agent
@@ -131,12 +131,12 @@ agents_no_units f k a = (
     none : sum_by (λ (g : ℕ). 0) (range_with_len 1 most_agent) ≡ 0
     none = sum_zero (λ (g : ℕ). 0) (range_with_len 1 most_agent) (all_of (λ (g : ℕ). ◌≡◌ {A = ℕ} 0 0) (λ g. refl) (range_with_len 1 most_agent))
 
-pub agents_payouts : (accounts assets : ℕ) (f : ℕ → ℕ) → ((k : ℕ) → 0 < f k → (0 < k) × (k < accounts)) → 0 < assets → All (Payout Cash accounts assets) (paid_agents f)
+pub agents_payouts : (accounts assets : ℕ) (f : ℕ → ℕ) → ((k : ℕ) → 0 < f k → (0 < k) × (k < accounts)) → 0 < assets → AllByRecursion (Payout Cash accounts assets) (paid_agents f)
 agents_payouts accounts assets f known some = each_all (Payout Cash accounts assets) (λ g. pays Cash g 0 (f g)) (range_with_len 1 most_agent)
-    (all_of (λ g. All (Payout Cash accounts assets) (pays Cash g 0 (f g)))
+    (all_of (λ g. AllByRecursion (Payout Cash accounts assets) (pays Cash g 0 (f g)))
     (λ g. pays_payout Cash Cash accounts assets g 0 (f g) (λ p _. let h = known g p in (h.0, h.1, some))) (range_with_len 1 most_agent))
 
-pub agents_no_payouts : (accounts assets : ℕ) (f : ℕ → ℕ) → All (Payout Securities accounts assets) (paid_agents f)
+pub agents_no_payouts : (accounts assets : ℕ) (f : ℕ → ℕ) → AllByRecursion (Payout Securities accounts assets) (paid_agents f)
 agents_no_payouts accounts assets f = each_all (Payout Securities accounts assets) (λ g. pays Cash g 0 (f g)) (range_with_len 1 most_agent)
-    (all_of (λ g. All (Payout Securities accounts assets) (pays Cash g 0 (f g)))
+    (all_of (λ g. AllByRecursion (Payout Securities accounts assets) (pays Cash g 0 (f g)))
     (λ g. pays_payout Securities Cash accounts assets g 0 (f g) (λ _ e. absurd (false≢true e))) (range_with_len 1 most_agent))

@@ -1,7 +1,7 @@
 -- What postings do to a register: none is refused where account 0 covers what it pays out, and each balance moves by
 -- what comes in and goes out.
 use Rattle.std.proofs.Common.{◌≡◌, ℕ, zero, suc, ◌+◌, ◌<◌, ◌≤◌, Bool, true, false, cond, ◌&&◌, eqb, leb, List, [], ◌∷◌, Some, None, sum_by, Option, sym, refl, ap, ◌∙◌, inl, inr, arith}
-use Rattle.std.specs.List.{AllByRecursion as All}
+use Rattle.std.specs.List.{AllByRecursion}
 use Rattle.std.proofs.lemmas.List.Sums.{sum_by-cons, sum_by-append}
 use Rattle.std.proofs.ByRecursion.{All-append}
 use Rattle.std.proofs.lemmas.Bool.{ne_eqb, eq-eqb, cases_eq, cases_Bool, lt-leb, le-ltb, lt-ltb, le-leb, leb-true, leb-false, eqb-true, eqb-false}
@@ -124,7 +124,7 @@ rest giver taker asset amount a x y z p h =
     let h' : x + cond (eqb asset a) amount 0 ≡ y + 0 = rw (eq-eqb giver 0 z, ne_eqb taker 0 (λ q. omega arith)) at h in
     omega (arith, h')
 
-pub payouts_run : (side : Side) (m : Meaning) (ps : List Posting) → All (Payout side m.accounts m.assets) ps
+pub payouts_run : (side : Side) (m : Meaning) (ps : List Posting) → AllByRecursion (Payout side m.accounts m.assets) ps
     → ((a : ℕ) → leaves side 0 a ps ≤ m.balance 0 a) → Run side m ps
 payouts_run side m [] all cov = run_none side m
 payouts_run side m (credits on account asset amount ∷ ps) all cov = absurd all.0
@@ -157,7 +157,7 @@ payouts_run side m (moves on giver taker asset amount ∷ ps) all cov = elim (ca
 -- ---- lists of payments
 
 pub pays_payout : (side on : Side) (accounts assets taker asset amount : ℕ)
-    → (0 < amount → same_side on side ≡ true → (0 < taker) × (taker < accounts) × (asset < assets)) → All (Payout side accounts assets) (pays on taker asset amount)
+    → (0 < amount → same_side on side ≡ true → (0 < taker) × (taker < accounts) × (asset < assets)) → AllByRecursion (Payout side accounts assets) (pays on taker asset amount)
 pays_payout side on accounts assets taker asset amount h = elim (cases_Bool (eqb amount 0)) [
   | inl e ↦ rw e tt
   | inr e ↦
@@ -185,7 +185,7 @@ pays_enter side on k a taker asset amount = elim (cases_Bool (eqb amount 0)) [
   | inr e ↦ rw e (omega arith)
 ]
 
-pub each_all : {X : Type 0} (P : Posting → Type 0) (f : X → List Posting) (xs : List X) → All (λ x. All P (f x)) xs → All P (for_each f xs)
+pub each_all : {X : Type 0} (P : Posting → Type 0) (f : X → List Posting) (xs : List X) → AllByRecursion (λ x. AllByRecursion P (f x)) xs → AllByRecursion P (for_each f xs)
 each_all P f [] a = tt
 each_all P f (x ∷ xs) a = All-append P (f x) (for_each f xs) a.0 (each_all P f xs a.1)
 

@@ -1,6 +1,6 @@
 -- The postings of every accepted call are accepted, and do what the tally tells.
 use Rattle.std.proofs.Common.{◌≡◌, ℕ, zero, suc, ◌-◌, ◌<◌, ◌≤◌, true, ◌||◌, eqb, ltb, [], length, get_or, set, is_ok, refl, ap, inl, inr, arith}
-use Rattle.std.specs.List.{AllByRecursion as All}
+use Rattle.std.specs.List.{AllByRecursion}
 use Rattle.std.proofs.ByRecursion.{All-weaker}
 use Rattle.std.proofs.lemmas.List.{get_or_past}
 use Rattle.std.proofs.lemmas.Bool.{and_parts, eqb-true, ltb-true, leb-true, false≢true, cases_lt}
@@ -82,7 +82,7 @@ follows o t call.Pair p k e side =
     let q = ok_checks (checks o t call.Pair) call.Pair (answer o t call.Pair) e in
     let s3 = eqb-true (session_number t.session) 3 q.0 in
     let made = made_lines o.book p.book t.lots (full_lots o t k (omega (arith, s3))) in
-    let none : All Untaken t.lines = rw (k.no_lines (omega (arith, s3))) tt in
+    let none : AllByRecursion Untaken t.lines = rw (k.no_lines (omega (arith, s3))) tt in
     unmoved o t (accepted o t call.Pair) none
     (All-weaker (MadeLine o.book) Untaken (λ l w. (w.taken, w.settled, w.returned)) (lines_of o.book t.lots) made.each) value_zero refl refl p k (kept_call o t call.Pair p.book e k) side
 follows o t (call.Credit on account asset amount) p k e side =

@@ -1,7 +1,7 @@
 -- What pairing makes of lines stays, whatever is taken, settled or returned of them.
 use Rattle.std.proofs.Common.{◌≡◌, ℕ, ◌+◌, Bool, true, cond, ◌&&◌, ◌||◌, eqb, List, [], ◌∷◌, map, length, sum_by, sym, refl, ap, ◌∙◌, subst}
 use lib.IntN.{sub_ℕ}
-use Rattle.std.specs.List.{AllByRecursion as All}
+use Rattle.std.specs.List.{AllByRecursion}
 use Rattle.std.proofs.ByRecursion.{All-map}
 use Rattle.std.proofs.lemmas.List.{length-map}
 use Rattle.pairing.specs.declared.line.Line.{Line}
@@ -13,7 +13,7 @@ use Rattle.pairing.specs.Laws.{WellPaired, position_on, within, different_pairs,
 use Rattle.rules.proofs.Totals.{map_kept}
 use Rattle.rules.proofs.Kept.{anew}
 
-all_anew : (P : Line → Type 0) (ls : List Line) → All P (map anew ls) → All (λ l. P (anew l)) ls
+all_anew : (P : Line → Type 0) (ls : List Line) → AllByRecursion P (map anew ls) → AllByRecursion (λ l. P (anew l)) ls
 all_anew P [] a = tt
 all_anew P (l ∷ ls) a = (a.0, all_anew P ls a.1)
 

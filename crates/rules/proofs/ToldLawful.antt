@@ -1,6 +1,6 @@
 -- Registers that were lawful at the opening are told as lawful ones after every history.
 use Rattle.std.proofs.Common.{◌≡◌, ℕ, ◌+◌, ◌*◌, ◌<◌, ◌≤◌, Bool, true, false, cond, ◌&&◌, eqb, ◌⊎◌, List, refl, ap, ◌∙◌, inl, inr, mul-zero, arith}
-use Rattle.std.specs.List.{AllByRecursion as All}
+use Rattle.std.specs.List.{AllByRecursion}
 use Rattle.std.proofs.ByRecursion.{All-weaker}
 use Rattle.std.proofs.lemmas.Bool.{ne_eqb, cases_Bool}
 use Rattle.register.specs.Rules.{Lawful}
@@ -60,7 +60,7 @@ no_units o t k a b c z =
     let e : m * (got t.lines k a + at_0 k (total (of_asset a) inside t.lines)) ≡ 0 = ap (λ x. m * x) z ∙ mul-zero m in
     omega (arith, b, c, e)
 
-none_passes : (b : Contents) (p : Line → Bool) (f : Line → ℕ) (ls : List Line) → ((l : Line) → Sane b l → p l ≡ false) → All (Sane b) ls → total p f ls ≡ 0
+none_passes : (b : Contents) (p : Line → Bool) (f : Line → ℕ) (ls : List Line) → ((l : Line) → Sane b l → p l ≡ false) → AllByRecursion (Sane b) ls → total p f ls ≡ 0
 none_passes b p f ls never sane = sum_zero (λ l. cond (p l) (f l) 0) ls (All-weaker (Sane b) (λ l. cond (p l) (f l) 0 ≡ 0) (λ l v. rw (never l v) refl) ls sane)
 
 both_false : (x y : Bool) → y ≡ false → (x && y) ≡ false

@@ -1,6 +1,6 @@
 -- Sums over lines, and how a change of the lines changes them.
 use Rattle.std.proofs.Common.{◌≡◌, ℕ, zero, suc, ◌+◌, ◌-◌, ◌*◌, ◌<◌, ◌≤◌, Bool, true, false, cond, ◌⊎◌, List, [], ◌∷◌, map, length, get_or, set, sum_by, refl, ap, ◌∙◌, inl, inr, add-mul, zero-mul, arith}
-use Rattle.std.specs.List.{AllByRecursion as All}
+use Rattle.std.specs.List.{AllByRecursion}
 use Rattle.std.proofs.lemmas.List.Sums.{sum_by-cons}
 use Rattle.std.proofs.lemmas.Bool.Decides.{nat_tests}
 use Rattle.pairing.specs.declared.line.Line.{Line}
@@ -8,19 +8,19 @@ use Rattle.book.specs.Books.{Contents, value, invoice}
 use Rattle.rules.specs.Tally.{take_on, loaded, here}
 
 -- what holds of everything holds of each
-pub all_of : {X : Type 0} (P : X → Type 0) → ((x : X) → P x) → (xs : List X) → All P xs
+pub all_of : {X : Type 0} (P : X → Type 0) → ((x : X) → P x) → (xs : List X) → AllByRecursion P xs
 all_of P f [] = tt
 all_of P f (x ∷ xs) = (f x, all_of P f xs)
 
-pub sum_zero : {X : Type 0} (f : X → ℕ) (xs : List X) → All (λ x. f x ≡ 0) xs → sum_by f xs ≡ 0
+pub sum_zero : {X : Type 0} (f : X → ℕ) (xs : List X) → AllByRecursion (λ x. f x ≡ 0) xs → sum_by f xs ≡ 0
 sum_zero f [] a = refl
 sum_zero f (x ∷ xs) a = let p = a.0 in let q = sum_zero f xs a.1 in rw (sum_by-cons f x xs) (omega arith)
 
-pub sum_le : {X : Type 0} (f g : X → ℕ) (xs : List X) → All (λ x. f x ≤ g x) xs → sum_by f xs ≤ sum_by g xs
+pub sum_le : {X : Type 0} (f g : X → ℕ) (xs : List X) → AllByRecursion (λ x. f x ≤ g x) xs → sum_by f xs ≤ sum_by g xs
 sum_le f g [] a = omega arith
 sum_le f g (x ∷ xs) a = let p = a.0 in let q = sum_le f g xs a.1 in rw (sum_by-cons f x xs, sum_by-cons g x xs) (omega arith)
 
-pub sum_same : {X : Type 0} (f g : X → ℕ) (xs : List X) → All (λ x. f x ≡ g x) xs → sum_by f xs ≡ sum_by g xs
+pub sum_same : {X : Type 0} (f g : X → ℕ) (xs : List X) → AllByRecursion (λ x. f x ≡ g x) xs → sum_by f xs ≡ sum_by g xs
 sum_same f g [] a = refl
 sum_same f g (x ∷ xs) a = let p = a.0 in let q = sum_same f g xs a.1 in rw (sum_by-cons f x xs, sum_by-cons g x xs) (omega arith)
 
@@ -43,25 +43,25 @@ map_down f t (x ∷ xs) e =
     let p = e x in let q = map_down f t xs e in
     rw (sum_by-cons f (t x) (map t xs), sum_by-cons f x xs) (omega arith)
 
-pub map_same : (f g : Line → ℕ) (t : Line → Line) (ls : List Line) → All (λ l. f (t l) ≡ g l) ls → sum_by f (map t ls) ≡ sum_by g ls
+pub map_same : (f g : Line → ℕ) (t : Line → Line) (ls : List Line) → AllByRecursion (λ l. f (t l) ≡ g l) ls → sum_by f (map t ls) ≡ sum_by g ls
 map_same f g t [] a = refl
 map_same f g t (x ∷ xs) a =
     let p = a.0 in let q = map_same f g t xs a.1 in
     rw (sum_by-cons f (t x) (map t xs), sum_by-cons g x xs) (omega arith)
 
-pub map_split : (f g h : Line → ℕ) (t : Line → Line) (ls : List Line) → All (λ l. f l ≡ g (t l) + h l) ls → sum_by f ls ≡ sum_by g (map t ls) + sum_by h ls
+pub map_split : (f g h : Line → ℕ) (t : Line → Line) (ls : List Line) → AllByRecursion (λ l. f l ≡ g (t l) + h l) ls → sum_by f ls ≡ sum_by g (map t ls) + sum_by h ls
 map_split f g h t [] a = refl
 map_split f g h t (x ∷ xs) a =
     let p = a.0 in let q = map_split f g h t xs a.1 in
     rw (sum_by-cons f x xs, sum_by-cons g (t x) (map t xs), sum_by-cons h x xs) (omega arith)
 
-pub map_more : (f h : Line → ℕ) (t : Line → Line) (ls : List Line) → All (λ l. f (t l) ≡ f l + h l) ls → sum_by f (map t ls) ≡ sum_by f ls + sum_by h ls
+pub map_more : (f h : Line → ℕ) (t : Line → Line) (ls : List Line) → AllByRecursion (λ l. f (t l) ≡ f l + h l) ls → sum_by f (map t ls) ≡ sum_by f ls + sum_by h ls
 map_more f h t [] a = refl
 map_more f h t (x ∷ xs) a =
     let p = a.0 in let q = map_more f h t xs a.1 in
     rw (sum_by-cons f (t x) (map t xs), sum_by-cons f x xs, sum_by-cons h x xs) (omega arith)
 
-pub map_zero : (f : Line → ℕ) (t : Line → Line) (ls : List Line) → All (λ l. f (t l) ≡ 0) ls → sum_by f (map t ls) ≡ 0
+pub map_zero : (f : Line → ℕ) (t : Line → Line) (ls : List Line) → AllByRecursion (λ l. f (t l) ≡ 0) ls → sum_by f (map t ls) ≡ 0
 map_zero f t [] a = refl
 map_zero f t (x ∷ xs) a =
     let p = a.0 in let q = map_zero f t xs a.1 in
@@ -82,12 +82,12 @@ take_adds f row a n (x ∷ xs) e =
     let b : here row a n x ≤ n = grind (arith, nat_tests) in
     rw (sum_by-cons f (loaded row a n x) (take_on row a (n - here row a n x) xs), sum_by-cons f x xs) (omega arith)
 
-pub take_all : (P : Line → Type 0) (row a n : ℕ) (ls : List Line) → ((m : ℕ) (l : Line) → P l → P (loaded row a m l)) → All P ls → All P (take_on row a n ls)
+pub take_all : (P : Line → Type 0) (row a n : ℕ) (ls : List Line) → ((m : ℕ) (l : Line) → P l → P (loaded row a m l)) → AllByRecursion P ls → AllByRecursion P (take_on row a n ls)
 take_all P row a n [] e p = tt
 take_all P row a n (x ∷ xs) e p = (e n x p.0, take_all P row a (n - here row a n x) xs e p.1)
 
 -- a sum over the lines that pass is 0, or P follows from some that passes
-pub total_or : (passes : Line → Bool) (f : Line → ℕ) (P : Type 0) (ls : List Line) → All (λ l. passes l ≡ true → P) ls → (sum_by (λ l. cond (passes l) (f l) 0) ls ≡ 0) ⊎ P
+pub total_or : (passes : Line → Bool) (f : Line → ℕ) (P : Type 0) (ls : List Line) → AllByRecursion (λ l. passes l ≡ true → P) ls → (sum_by (λ l. cond (passes l) (f l) 0) ls ≡ 0) ⊎ P
 total_or passes f P [] a = inl refl
 total_or passes f P (x ∷ xs) a = go (passes x) refl (total_or passes f P xs a.1)
   where

@@ -1,6 +1,6 @@
 -- In a whole settlement the draws held are what the nets above 0 are paid with, to the centavo.
 use Rattle.std.proofs.Common.{◌≡◌, ℕ, ◌+◌, ◌-◌, ◌<◌, ◌≤◌, true, eqb, ltb, ◌⊎◌, List, is_ok, sum_by, sym, ◌∙◌, inl, inr, arith}
-use Rattle.std.specs.List.{AllByRecursion as All, range_with_len}
+use Rattle.std.specs.List.{AllByRecursion, range_with_len}
 use Rattle.std.proofs.ByRecursion.{All-weaker}
 use Rattle.std.proofs.lemmas.Bool.{eqb-true, and_parts, not-true, ltb-false}
 use Rattle.pairing.specs.declared.line.Line.{Line}
@@ -35,16 +35,16 @@ short_over f g =
     ∙ agents.add (λ k. g k - f k) f
 
 -- What all agents buy, and what they sell, is the value of all lines.
-pub bought_in_all : (b : Contents) (f : Line → ℕ) (ls : List Line) → Sound b → All (Sane b) ls → over_agents (value_bought b f ls) ≡ sum_by (λ l. value b l.asset (f l)) ls
+pub bought_in_all : (b : Contents) (f : Line → ℕ) (ls : List Line) → Sound b → AllByRecursion (Sane b) ls → over_agents (value_bought b f ls) ≡ sum_by (λ l. value b l.asset (f l)) ls
 bought_in_all b f ls s a = parts over_agents (λ k. (1 ≤ k) × (k < 1 + most_agent)) agents (buyer_agent b) (λ l. value b l.asset (f l)) ls
     (All-weaker (Sane b) (λ l. ((1 ≤ buyer_agent b l) × (buyer_agent b l < 1 + most_agent)) ⊎ (value b l.asset (f l) ≡ 0)) (λ l v. inl (among (buyer_agent b l) (agent_in b s l.buyer v.buyer))) ls a)
 
-pub sold_in_all : (b : Contents) (f : Line → ℕ) (ls : List Line) → Sound b → All (Sane b) ls → over_agents (value_sold b f ls) ≡ sum_by (λ l. value b l.asset (f l)) ls
+pub sold_in_all : (b : Contents) (f : Line → ℕ) (ls : List Line) → Sound b → AllByRecursion (Sane b) ls → over_agents (value_sold b f ls) ≡ sum_by (λ l. value b l.asset (f l)) ls
 sold_in_all b f ls s a = parts over_agents (λ k. (1 ≤ k) × (k < 1 + most_agent)) agents (seller_agent b) (λ l. value b l.asset (f l)) ls
     (All-weaker (Sane b) (λ l. ((1 ≤ seller_agent b l) × (seller_agent b l < 1 + most_agent)) ⊎ (value b l.asset (f l) ≡ 0)) (λ l v. inl (among (seller_agent b l) (agent_in b s l.seller v.seller))) ls a)
 
 -- an agent buys nothing, or what holds of every buyer's agent holds of it
-buys_or : (b : Contents) (P : ℕ → Type 0) (ls : List Line) (k : ℕ) → All (λ l. P (buyer_agent b l)) ls → (value_bought b (λ l. l.contracts) ls k ≡ 0) ⊎ P k
+buys_or : (b : Contents) (P : ℕ → Type 0) (ls : List Line) (k : ℕ) → AllByRecursion (λ l. P (buyer_agent b l)) ls → (value_bought b (λ l. l.contracts) ls k ≡ 0) ⊎ P k
 buys_or b P ls k a = total_or (λ l. eqb (buyer_agent b l) k) (λ l. value b l.asset l.contracts) (P k) ls
     (All-weaker (λ l. P (buyer_agent b l)) (λ l. eqb (buyer_agent b l) k ≡ true → P k) (λ l h e. rw (eqb-true (buyer_agent b l) k e) at h) ls a)
 

@@ -1,6 +1,6 @@
 -- The claims of agents 1 to 64 add up to 0.
 use Rattle.std.proofs.Common.{◌≡◌, ℕ, zero, suc, ◌<◌, ◌≤◌, cond, eqb, List, [], ◌∷◌, ℤ, pos, ◌+ℤ◌, ◌-ℤ◌, refl, ◌∙◌, inl, inr, arith}
-use Rattle.std.specs.List.{AllByRecursion as All}
+use Rattle.std.specs.List.{AllByRecursion}
 use Rattle.std.proofs.lemmas.Int.{ints}
 use Rattle.std.proofs.lemmas.Bool.{ne_eqb, eq-eqb, cases_eq}
 use Rattle.pairing.specs.declared.line.Line.{Line}
@@ -50,13 +50,13 @@ line_zero b l s v =
     agents_sub (λ k. cond (eqb (buyer_agent b l) k) (differences b l) (pos 0)) (λ k. cond (eqb (seller_agent b l) k) (differences b l) (pos 0)) 64
     ∙ rw (p, q) (omega (arith, ints))
 
-lines_zero : (b : Contents) (ls : List Line) → Sound b → All (Sane b) ls → sum_agents (λ k. sumℤ (claim_on b k) ls) 64 ≡ pos 0
+lines_zero : (b : Contents) (ls : List Line) → Sound b → AllByRecursion (Sane b) ls → sum_agents (λ k. sumℤ (claim_on b k) ls) 64 ≡ pos 0
 lines_zero b [] s a = agents_zero 64
 lines_zero b (l ∷ ls) s a =
     agents_add (λ k. claim_on b k l) (λ k. sumℤ (claim_on b k) ls) 64 ∙ rw (line_zero b l s a.0, lines_zero b ls s a.1) refl
 
-pub claims_zero : (b : Contents) (t : Tally) → Sound b → All (Sane b) t.closed → sum_agents (claim b t) 64 ≡ pos 0
+pub claims_zero : (b : Contents) (t : Tally) → Sound b → AllByRecursion (Sane b) t.closed → sum_agents (claim b t) 64 ≡ pos 0
 claims_zero b t s a = lines_zero b t.closed s a
 
-pub claims_zero_of : (b : Contents) (t : Tally) (f : ℕ → ℤ) → Sound b → All (Sane b) t.closed → ((k : ℕ) → f k ≡ claim b t k) → sum_agents f 64 ≡ pos 0
+pub claims_zero_of : (b : Contents) (t : Tally) (f : ℕ → ℤ) → Sound b → AllByRecursion (Sane b) t.closed → ((k : ℕ) → f k ≡ claim b t k) → sum_agents f 64 ≡ pos 0
 claims_zero_of b t f s a e = agents_same f (claim b t) 64 e ∙ claims_zero b t s a

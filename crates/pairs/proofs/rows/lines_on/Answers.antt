@@ -1,6 +1,6 @@
 use Rattle.std.proofs.Common.{◌≡◌, ℕ, ◌-◌, ◌<◌, List, [], map, length, take, sym, ap, ◌∙◌, subst, arith}
 use native.Mathlib.Nat.{sub-zero}
-use Rattle.std.specs.List.{AllByRecursion as All}
+use Rattle.std.specs.List.{AllByRecursion}
 use Rattle.pairing.specs.declared.pair.Pair.{Pair}
 use Rattle.pairing.specs.Pairing.{in_groups, all_groups, unpaired}
 use Rattle.pairing.specs.Lines.{lines_of_pairs}
@@ -18,7 +18,7 @@ add_pairs-requires c =
     let hs = map unpaired c.args.holders.now in
     let is = part_is c.pair_on-made.result c.pair_on-made.new.pairs (in_groups all_groups hs).0 c.pair_on-made.ensures.by_the_rule in
     let same = rows_length c.args.holders.now in
-    let Near : List Pair → Type 0 = λ ps. All (λ (p : Pair). (p.buyer < 256) × (p.seller < 256)) ps in
+    let Near : List Pair → Type 0 = λ ps. AllByRecursion (λ (p : Pair). (p.buyer < 256) × (p.seller < 256)) ps in
     record {
       few_assets = c.requires.few.1;
       near = subst Near (sym is) (pairs_near all_groups hs 256 (omega (arith, same, c.requires.few.0)));
