@@ -4,7 +4,8 @@
 
 It writes specs/DaysNN.antt, a few days each, specs/Days.antt, which has the theorem that
 all of them agree, and proofs/Played.antt, which has the checker compute them.
-The same numbers always give the same table. A day that the definitions do not
+The same numbers always give the same table. `rt tidy` in the crate then lays the files
+out and drops the imports that a file does not use. A day that the definitions do not
 give makes the crate fail.
 """
 
@@ -27,15 +28,13 @@ CALL = {"end": "call.End", "pair": "call.Pair", "take": "call.Take", "draw": "ca
         "whole": "call.SettleWhole", "line": "call.SettleLine", "close": "call.Close"}
 
 USES = """\
-use Prim.Native.Nat.{ℕ}
-use mathlib.Core.List.{List, [], _∷_}
-use lib.IntN.{ℤ, pos, negsuc}
-use Rattle·rules.specs.declared.side.Side.the-variants.{Securities, Cash}
-use Rattle·rules.specs.declared.speaker.Speaker.the-variants as speaker
-use Rattle·rules.specs.declared.call.Call.the-variants as call
-use Rattle·rules.specs.declared.fault.Part.the-variants as part
-use Rattle·pairing.specs.Cases.{asset, buyer, seller, book}
-use Rattle·rules_days·specs.Trials.{Day, asks, cramped, tell, ok, counts, refused, refused-by, stands}
+use Rattle.std.specs.Prelude.{List, [], ◌∷◌, pos, negsuc}
+use Rattle.rules.specs.declared.side.Side.TheVariants.{Securities, Cash}
+use Rattle.rules.specs.declared.speaker.Speaker.TheVariants as speaker
+use Rattle.rules.specs.declared.call.Call.TheVariants as call
+use Rattle.rules.specs.declared.fault.Part.TheVariants as part
+use Rattle.pairing.specs.Cases.{asset, buyer, seller, book}
+use Rattle.rules_days.specs.Trials.{Day, asks, cramped, tell, ok, counts, refused, refused_by, stands}
 """
 
 
@@ -71,7 +70,7 @@ def told(text):
     if word == "ok":
         return "counts " + rest[0] if rest else "ok"
     if len(rest) == 2:
-        return "refused-by %s %s" % (SIDE[rest[1]], rest[0])
+        return "refused_by %s %s" % (SIDE[rest[1]], rest[0])
     return "refused " + rest[0]
 
 
@@ -210,25 +209,25 @@ def main():
         part = days[start:start + DAYS_A_FILE]
         text = "-- Days that the separate player played, with what it told. Written by tests/rules_days.py.\n" + USES
         for number, table in enumerate(part, 1):
-            text += "\nabbrev pub day-%d : Day\nday-%d = %s\n" % (number, number, table.term())
+            text += "\nabbrev pub day_%d : Day\nday_%d = %s\n" % (number, number, table.term())
         text += "\nabbrev pub days : List Day\ndays = %s\n" % wrapped(
-            ["day-%d" % number for number in range(1, len(part) + 1)], "  ")
+            ["day_%d" % number for number in range(1, len(part) + 1)], "  ")
         (crate / "specs" / (name + ".antt")).write_text(text)
-    uses = "".join("use Rattle·rules_days·specs.%s as %s\n" % (name, name.lower()) for name in names)
+    uses = "".join("use Rattle.rules_days.specs.%s as %s\n" % (name, name.lower()) for name in names)
     (crate / "specs/Days.antt").write_text(
         "-- All days agree: %d of them. Written by tests/rules_days.py.\n"
-        "use mathlib.Core.List.{List}\nuse Rattle·rules_days·specs.Trials.{Agree}\n%s\n"
-        "pub record Days-agree : Type 0 where\n%s" % (
+        "use Rattle.rules_days.specs.Trials.{Agree}\n%s\n"
+        "pub record DaysAgree : Type 0 where\n%s" % (
             len(days), uses, "".join("  pub %s : Agree %s.days\n" % (name.lower(), name.lower()) for name in names)))
     (crate / "proofs/Played.antt").write_text(
         "-- The days, played by computation. Written by tests/rules_days.py.\n"
-        "use mathlib.Core.Path.{refl}\nuse Rattle·pairing.specs.Pairing.{all-groups}\n"
-        "use Rattle·rules_days·specs.Trials.{Agree}\n%s"
-        "use Rattle·rules_days·specs.Days.{Days-agree}\n%s\n"
-        "pub days-agree : Days-agree\ndays-agree = record { %s }\n" % (
+        "use Rattle.std.proofs.Common.{refl}\nuse Rattle.pairing.specs.Pairing.{all_groups}\n"
+        "use Rattle.rules_days.specs.Trials.{Agree}\n%s"
+        "use Rattle.rules_days.specs.Days.{DaysAgree}\n%s\n"
+        "pub days_agree : DaysAgree\ndays_agree = record { %s }\n" % (
             uses,
-            "".join("\nin-%s : Agree %s.days\nunfolding all-groups\nin-%s = refl\n" % ((name.lower(),) * 3) for name in names),
-            "; ".join("%s = in-%s" % ((name.lower(),) * 2) for name in names)))
+            "".join("\nin_%s : Agree %s.days\nunfolding all_groups\nin_%s = refl\n" % ((name.lower(),) * 3) for name in names),
+            "; ".join("%s = in_%s" % ((name.lower(),) * 2) for name in names)))
     (crate / "specs/Lib.antt").write_text("".join("pub mod %s\n" % name for name in ["Trials"] + names + ["Days"]))
     print("%d days, %d asked" % (len(days), sum(len(table.asked) + 1 for table in days)))
 
