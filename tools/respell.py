@@ -5,8 +5,8 @@ usage: python3 tools/respell.py            at the top of the repository, once, r
 
 Words are in snake case and types in upper camel case: row-named -> row_named, Law-holds -> LawHolds, rowOf -> row_of.
 Names that Rattle makes for goals and steps, and names of the library, keep their dashes. Functions of src/, strings,
-comments of source files, inputs and outputs are left alone. It prints each renaming (docs/PORT.md has the list), and
-the names that would fall together.
+comments of source files, inputs and outputs are left alone. It prints the names that would fall together,
+and writes each renaming to /tmp/respelled.tsv; docs/PORT.md has those that follow no plain rule.
 """
 import os
 import re
