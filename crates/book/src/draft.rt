@@ -12,6 +12,7 @@ ghost use Rattle.book.specs.Data.{draft_of, Does, Gives, fault_on};
 
 use crate::awaits::Awaits;
 use crate::fault::{Cause, ReadFault, Refusal};
+use crate::limits::{MOST_ASSETS, MOST_HOLDERS};
 use crate::records::{Asset, Holder, Terms};
 use std::alloc::Global;
 use text::cut::step;
@@ -27,10 +28,7 @@ pub struct Draft {
     pub holders: Vec<Holder>,
 }
 
-const MOST_ASSETS: usize = 4;
-
-const MOST_HOLDERS: usize = 256;
-
+// The most contracts bought in a book.
 const MOST_BOUGHT: u64 = 1_000_000;
 
 // The range of each field, as the file's format has it.

@@ -6,5 +6,6 @@ pub mod book;
 mod draft;
 pub mod fault;
 pub mod laws;
+pub mod limits;
 pub mod numbers;
 pub mod records;

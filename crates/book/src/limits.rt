@@ -1,0 +1,13 @@
+// The limits of a book that others build on.
+
+// The most deliverable assets.
+pub const MOST_ASSETS: usize = 4;
+
+// The most holders.
+pub const MOST_HOLDERS: usize = 256;
+
+// The highest number of a member or clearing member.
+pub const MOST_MEMBER: u16 = 999;
+
+// The highest number of a payment agent.
+pub const MOST_AGENT: u8 = 64;
