@@ -1,5 +1,6 @@
 pub mod Scans
 pub mod PartsAt
+pub mod CutForms
 pub mod NumberForms
 pub mod Collects
 pub mod Ranges
