@@ -1,12 +1,12 @@
 -- How many bytes stand before a separator, and how many separators there are, as the library counts them.
-use Rattle.std.proofs.Common.{◌≡◌, ℕ, suc, ◌+◌, ◌-◌, ◌≤◌, true, false, cond, List, [], ◌∷◌, length, ◌==◌, Some, None, nat_lt, sym, refl, ap, ◌∙◌, arith}
+use Rattle.std.proofs.Common.{◌≡◌, ℕ, suc, ◌+◌, ◌≤◌, true, false, cond, List, [], ◌∷◌, length, ◌==◌, Some, None, nat_lt, sym, refl, ap, ◌∙◌, arith}
 use Rattle.std.specs.Prelude.{count_by}
-use Rattle.std.specs.List.{position}
+use Rattle.std.specs.List.{position, slice_split, onto_first}
 use Rattle.std.specs.Option.{unwrap_or}
 use Rattle.std.proofs.lemmas.Bool.Decides.{nat_tests}
-use Rattle.std.proofs.lemmas.List.Recursion.{is_position_or_len, is_count_by}
+use Rattle.std.proofs.lemmas.List.Recursion.{is_position_or_len}
+use Rattle.std.proofs.lemmas.List.Splits.{length-slice_split}
 use Rattle.text.specs.Parts.{stop, parts, onto}
-use Rattle.text.proofs.PartsAt.{onto_length, parts_some}
 
 pub stop_within : (b : ℕ) (s : List ℕ) → stop b s ≤ length s
 stop_within b [] = omega arith
@@ -20,12 +20,15 @@ stop_counts b s =
     ap (λ n. unwrap_or (cond (nat_lt n (length s)) (Some n) None) (length s)) (sym (is_position_or_len (stop b) (λ c. c == b) refl (λ x xs. let one : suc (stop b xs) ≡ 1 + stop b xs = omega arith in ap (λ n. cond (x == b) 0 n) one) s))
     ∙ held_back (stop b s) (length s) (stop_within b s)
 
-next_count : (b c : ℕ) (cs : List ℕ) → length (parts b (c ∷ cs)) - 1 ≡ cond (c == b) (1 + (length (parts b cs) - 1)) (length (parts b cs) - 1)
-next_count b c cs =
-    elim (c == b) as (λ v. length (cond v ([] ∷ parts b cs) (onto c (parts b cs))) - 1 ≡ cond v (1 + (length (parts b cs) - 1)) (length (parts b cs) - 1)) [
-      | true ↦ omega (arith, parts_some b cs)
-      | false ↦ ap (λ n. n - 1) (onto_length c (parts b cs) (parts_some b cs))
-    ]
+same_onto : (c : ℕ) (ps : List (List ℕ)) → onto c ps ≡ onto_first c ps
+same_onto c [] = refl
+same_onto c (p ∷ ps) = refl
+
+-- parts are what the library's `split` gives
+pub parts_split : (b : ℕ) (s : List ℕ) → parts b s ≡ slice_split (λ c. c == b) s
+parts_split b [] = refl
+parts_split b (c ∷ cs) =
+    ap (λ ps. cond (c == b) ([] ∷ ps) (onto c ps)) (parts_split b cs) ∙ ap (λ ps. cond (c == b) ([] ∷ slice_split (λ c. c == b) cs) ps) (same_onto c (slice_split (λ c. c == b) cs))
 
 pub parts_count : (b : ℕ) (s : List ℕ) → count_by (λ c. c == b) s + 1 ≡ length (parts b s)
-parts_count b s = omega (arith, is_count_by (λ t. length (parts b t) - 1) (λ c. c == b) refl (next_count b) s, parts_some b s)
+parts_count b s = sym (length-slice_split (λ c. c == b) s) ∙ ap length (sym (parts_split b s))

@@ -3,10 +3,6 @@ use Rattle.std.proofs.Common.{◌≡◌, ℕ, suc, ◌<◌, true, false, cond, e
 use Rattle.std.proofs.lemmas.Bool.{cond-true, cond-false, cases_eq}
 use Rattle.text.specs.Parts.{stop, onto, parts, later, together}
 
-pub onto_length : (c : ℕ) (fs : List (List ℕ)) → 0 < length fs → length (onto c fs) ≡ length fs
-onto_length c [] h = absurd (omega arith)
-onto_length c (f ∷ fs) h = refl
-
 -- the first part, and the parts of the rest that its step leaves
 pub parts_step : (b : ℕ) (s : List ℕ) → parts b s ≡ take (stop b s) s ∷ later b (drop (stop b s) s)
 parts_step b [] = refl
