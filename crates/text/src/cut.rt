@@ -10,7 +10,7 @@ fn place(rest: &[u8], separator: u8) -> Option<usize>
     rest.iter().position(|b| *b == separator)
 }
 
-#[tactic(auto, using(crate::proofs::CutForms::stop_counts, crate::proofs::CutForms::stop_within))]
+#[tactic(auto, using(crate::proofs::CutForms::stop_within))]
 fn cut(rest: &[u8], separator: u8) -> (&[u8], &[u8])
     ensures part_ends_at_separator { result.0.now ≡ take (stop separator rest.now) rest.now }
     ensures rest_begins_there { result.1.now ≡ drop (stop separator rest.now) rest.now }
@@ -29,6 +29,7 @@ pub fn step(rest: &[u8], separator: u8) -> (&[u8], &[u8])
 }
 
 // How many separators there are: one fewer than there are parts.
+#[tactic(auto, using(crate::proofs::CutForms::parts_count))]
 pub(crate) fn separators(s: &[u8], separator: u8) -> usize
     ensures one_fewer_than_parts { result + 1 ≡ length (parts separator s.now) }
 {

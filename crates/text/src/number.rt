@@ -8,6 +8,7 @@ ghost use Rattle.text.specs.Number.{read_on, natural as natural_of, number as nu
 const LIMIT: u64 = 1_000_000_000_000_000_001;
 
 // The number that the digits write, held at the limit; none where a byte is no digit.
+#[tactic(auto, using(crate::proofs::Scans::scan_none, crate::proofs::Scans::scan_end, crate::proofs::NumberForms::scan_is))]
 fn magnitude(digits: &[u8]) -> Option<u64>
     ensures held_value_of_digits { result ≡ (if all_ascii_digits digits.now then Some (min limit (read_on 0 digits.now)) else None) }
 {

@@ -1,5 +1,5 @@
 // A line of a kind and numbers: its fields are tried one by one.
-ghost use Rattle.std.specs.Prelude.{◌≡◌, ◌<◌, drop, length, not, IfSome};
+ghost use Rattle.std.specs.Prelude.{◌≡◌, ◌<◌, ◌&&◌, drop, length, not, int_le, IfSome};
 ghost use Rattle.std.specs.List.{position, zip};
 ghost use Rattle.text.specs.declared.row.RowError.TheVariants.{Refused, NoMemory};
 ghost use Rattle.text.specs.Number.{near};
@@ -29,11 +29,18 @@ fn is_near(n: i64) -> bool
 }
 
 impl Bound {
+    // Whether a number stands between the least and the largest.
+    fn spans(&self, n: i64) -> bool
+        ensures between_them { result ≡ (int_le self.now.low n && int_le n self.now.high) }
+    {
+        (self.low..=self.high).contains(&n)
+    }
+
     // Whether a field may have this number.
     pub(crate) fn allows(&self, n: i64) -> bool
         ensures within_the_bound { result ≡ inside self.now n }
     {
-        is_near(n) && (self.low..=self.high).contains(&n) && (self.zero || n != 0)
+        is_near(n) && self.spans(n) && (self.zero || n != 0)
     }
 }
 
