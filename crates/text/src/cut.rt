@@ -1,4 +1,5 @@
 // Cutting bytes at a separator, one part at a time.
+// Bytes and separator stay two arguments: callers cut one text at several separators in turn.
 ghost use Rattle.std.specs.Prelude.{◌≡◌, ◌+◌, ◌==◌, length, take, drop};
 ghost use Rattle.std.specs.List.{position};
 ghost use Rattle.text.specs.Parts.{stop, parts};
