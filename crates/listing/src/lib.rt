@@ -1,15 +1,16 @@
 // Lines as they are listed: with the holders' names and the value of the contracts.
 #![tactic(auto)]
 
-ghost use Rattle.std.specs.Prelude.{◌≡◌};
+ghost use Rattle.std.specs.Prelude.{◌≡◌, Some};
 ghost use Rattle.book.specs.Books.{holder};
 ghost use Rattle.book.specs.Data.{contents};
-ghost use Rattle.listing.specs.Listed.{stage_number, listed};
+ghost use Rattle.listing.specs.Listed.{name_text, line_text, listed};
 
 use book::book::Book;
 use book::records::Holder;
 use pairing::line::Line;
 use pairing::stage::Stage;
+use std::fmt;
 
 // A holder's name: its member, and its number within the member.
 #[derive(Clone, Copy)]
@@ -22,7 +23,7 @@ pub struct Name {
 #[derive(Clone, Copy)]
 pub struct ListedLine {
     pub number: usize,
-    pub stage: u8,
+    pub stage: Stage,
     pub buyer: Name,
     pub seller: Name,
     pub asset: u8,
@@ -30,7 +31,30 @@ pub struct ListedLine {
     pub value: u128,
 }
 
-// Who is in a row that no book has.
+impl fmt::Display for Name {
+    ghost output = { λ n. Some (name_text n) };
+
+    fn fmt<W: fmt::Write>(&self, f: &mut fmt::Formatter<W>) -> fmt::Result {
+        let (member, number) = (self.member, self.number);
+        write!(f, "{member},{number}")
+    }
+}
+
+impl fmt::Display for ListedLine {
+    ghost output = { λ l. Some (line_text l) };
+
+    fn fmt<W: fmt::Write>(&self, f: &mut fmt::Formatter<W>) -> fmt::Result {
+        let (number, stage) = (self.number, u8::from(self.stage));
+        let (buyer, seller) = (self.buyer, self.seller);
+        let (asset, contracts, value) = (self.asset, self.contracts, self.value);
+        write!(
+            f,
+            "line,{number},{stage},{buyer},{seller},{asset},{contracts},{value}"
+        )
+    }
+}
+
+// Who is in a row that no book has: `list_line` names someone for every row, as the definition `holder` does.
 const NOBODY: Holder = Holder {
     member: 0,
     number: 0,
@@ -39,32 +63,14 @@ const NOBODY: Holder = Holder {
     position: 0,
 };
 
-// The number of a stage.
-fn number_of(stage: Stage) -> u8
-    ensures { result ≡ stage_number stage }
-{
-    match stage {
-        Stage::Member => 1,
-        Stage::Clearing => 2,
-        Stage::Agent => 3,
-        Stage::Whole => 4,
-    }
-}
-
 // The holder in a row, from 1.
 fn holder_in(book: &Book, row: u16) -> Holder
     ensures { result ≡ holder (contents book.now) row }
 {
-    let holders = book.holders();
-    if row == 0 {
+    let Some(place) = usize::from(row).checked_sub(1) else {
         return NOBODY;
-    }
-    let place = row as usize - 1;
-    if place < holders.len() {
-        holders[place]
-    } else {
-        NOBODY
-    }
+    };
+    book.holders().get(place).copied().unwrap_or(NOBODY)
 }
 
 // The name of the holder in a row.
@@ -84,32 +90,21 @@ pub fn list_line(book: &Book, number: usize, line: Line) -> ListedLine
 {
     ListedLine {
         number,
-        stage: number_of(line.stage),
+        stage: line.stage,
         buyer: name_in(book, line.buyer),
         seller: name_in(book, line.seller),
         asset: line.asset,
         contracts: line.contracts,
-        value: book.value(line.asset as usize, line.contracts),
+        value: book.value(usize::from(line.asset), line.contracts),
     }
-}
-
-// Prints one line of a book.
-fn print_line(rt: &HostRuntime, book: &Book, number: usize, line: Line) -> anyhow::Result<()> {
-    let l = list_line(book, number, line);
-    let (stage, asset, contracts, value) = (l.stage, l.asset, l.contracts, l.value);
-    let (buyer, buyer_number) = (l.buyer.member, l.buyer.number);
-    let (seller, seller_number) = (l.seller.member, l.seller.number);
-    println!(rt;
-        "line,{number},{stage},{buyer},{buyer_number},{seller},{seller_number},{asset},{contracts},{value}"
-    )?;
-    Ok(())
 }
 
 // Prints the lines of a book, numbered from 1, under their heading.
 pub fn print_lines(rt: &HostRuntime, book: &Book, lines: &[Line]) -> anyhow::Result<()> {
     println!(rt; "lines,1")?;
     for (i, line) in lines.iter().enumerate() {
-        print_line(rt, book, i + 1, *line)?;
+        let listed = list_line(book, i + 1, *line);
+        println!(rt; "{listed}")?;
     }
     Ok(())
 }

@@ -48,30 +48,25 @@ fn search_all<T: Ranked>(records: &[T]) -> Option<usize>
 }
 
 // Whether the first record found so far stays the first beside a later one: it does if they are alike.
+// A function of its own, so that a wrong comparison is refused here.
 fn stays_first<T: Ranked>(found: &T, later: &T) -> bool
     ensures { result ≡ T.Ranked.leq found.now later.now }
 {
     found.stands_before(later)
 }
 
-// Goes through the list once and keeps the first open record so far.
+// The place of the first of the open records.
 fn search<T: Ranked>(records: &[T]) -> Option<usize>
     ensures { FirstOpen T.Ranked.leq T.Ranked.is_open records.now result }
 {
-    let mut first: Option<usize> = None;
-    for (i, x) in records.iter().enumerate() {
-        if x.is_open() {
-            first = match first {
-                None => Some(i),
-                Some(b) => {
-                    if stays_first(&records[b], x) {
-                        Some(b)
-                    } else {
-                        Some(i)
-                    }
-                }
-            };
-        }
-    }
-    first
+    records
+        .iter()
+        .enumerate()
+        .filter(|(_, x)| x.is_open())
+        .reduce(|found, later| if stays_first(found.1, later.1) {
+            found
+        } else {
+            later
+        })
+        .map(|(i, _)| i)
 }

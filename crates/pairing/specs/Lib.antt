@@ -4,3 +4,4 @@ pub mod Lines
 pub mod Laws
 pub mod InWords
 pub mod Cases
+pub mod StageNumber

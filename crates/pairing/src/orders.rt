@@ -6,6 +6,7 @@ ghost use Rattle.std.proofs.Common.{rules};
 use crate::deliverable::Deliverable;
 use crate::pair::Unpaired;
 use order::Ranked;
+use std::cmp::Reverse;
 
 // Larger unpaired volume first, then lower member, then lower number; open while volume is left.
 impl Ranked for Unpaired {
@@ -22,10 +23,8 @@ impl Ranked for Unpaired {
     ghost carries = { Prim.search rules };
 
     fn stands_before(&self, other: &Unpaired) -> bool {
-        self.volume > other.volume
-            || (self.volume == other.volume
-                && (self.member < other.member
-                    || (self.member == other.member && self.number <= other.number)))
+        (Reverse(self.volume), self.member, self.number)
+            <= (Reverse(other.volume), other.member, other.number)
     }
 
     fn is_open(&self) -> bool {
@@ -50,7 +49,7 @@ impl Ranked for Deliverable {
     fn stands_before(&self, other: &Deliverable) -> bool {
         let here = u128::from(self.market) + u128::from(other.invoice);
         let there = u128::from(other.market) + u128::from(self.invoice);
-        here < there || (here == there && self.asset <= other.asset)
+        (here, self.asset) <= (there, other.asset)
     }
 
     fn is_open(&self) -> bool {

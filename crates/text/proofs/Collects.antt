@@ -1,13 +1,15 @@
 -- The numbers of fields, after those found so far.
-use Rattle.std.proofs.Common.{◌≡◌, ℕ, suc, ◌+◌, ◌-◌, ◌<◌, List, [], ◌∷◌, ◌++◌, map, length, take, drop, ℤ, Some, None, Ok, Err, Option, Result, sym, refl, ap, ◌∙◌, append_assoc, arith}
-use Rattle.std.proofs.lemmas.List.{append-nil, take_rest}
-use Rattle.std.specs.Option.{option_map}
+use Rattle.std.proofs.Common.{◌≡◌, ℕ, suc, ◌+◌, ◌<◌, ◌≤◌, get_or, List, [], ◌∷◌, ◌++◌, map, length, drop, ℤ, Some, None, Ok, Err, Option, Result, sym, refl, ap, subst, ◌==◌, ◌∙◌, append_assoc, arith}
+use Rattle.std.proofs.lemmas.List.{append-nil, at_drop_more, at_drop_all}
+use Rattle.std.proofs.lemmas.List.FromFn.{length-enumerate_from, get_or-enumerate_from}
+use Rattle.std.specs.List.{enumerate_from, slice_split}
+use Rattle.std.specs.Option.{option_map, ok_or}
 use Rattle.text.specs.declared.row.RowFault.{RowFault}
 use Rattle.text.specs.declared.row.RowFault.TheVariants.{Form}
-use Rattle.text.specs.Parts.{stop, parts, later}
 use Rattle.text.specs.Number.{number, held}
+use Rattle.text.specs.Parts.{fields}
+use Rattle.text.proofs.CutForms.{parts_split}
 use Rattle.text.specs.Rows.{read, then, held_all}
-use Rattle.text.proofs.PartsAt.{parts_step}
 
 abbrev pub after : List ℤ → Result (List ℤ) RowFault → Result (List ℤ) RowFault
 after xs (Ok zs) = Ok (xs ++ zs)
@@ -32,25 +34,52 @@ pub after_nil : (r : Result (List ℤ) RowFault) → after [] r ≡ r
 after_nil (Ok zs) = refl
 after_nil (Err e) = refl
 
--- a rest that begins with its separator, and is not empty, has what its step gives
-later_step : (b : ℕ) (s : List ℕ) → 0 < length s → later b s ≡ parts b (take (length s - 1) (drop 1 s))
-later_step b [] h = absurd (omega arith)
-later_step b (c ∷ cs) h = ap (parts b) (sym (take_rest (c ∷ cs) 1))
+-- ---- the ways of one turn: gs are the fields, of which n are done, and f is the next one
 
--- ---- the ways of one turn: s is the rest, f the field and m the rest after it that a step gives past the comma of s
+pub collect_stop : (xs : List ℤ) (k n : ℕ) (gs : List (List ℕ)) (f : List ℕ) → n < length gs → f ≡ get_or gs n f → None ≡ option_map held (number f) → collect xs k (drop n gs) ≡ Err (Form k)
+collect_stop xs k n gs f h e q =
+    at_drop_more (collect xs k) gs n f h ∙ ap (λ g. collect xs k (g ∷ drop (n + 1) gs)) (sym e) ∙ none_case (number f) xs k (read (suc k) (drop (n + 1) gs)) q
 
-pub collect_stop : (xs : List ℤ) (k : ℕ) (s t f : List ℕ) → 0 < length s → t ≡ take (length s - 1) (drop 1 s) → f ≡ take (stop 44 t) t → None ≡ option_map held (number f) → collect xs k (later 44 s) ≡ Err (Form k)
-collect_stop xs k s t f some u e h =
-    ap (collect xs k) (later_step 44 s some ∙ ap (parts 44) (sym u) ∙ parts_step 44 t ∙ ap (λ g. g ∷ later 44 (drop (stop 44 t) t)) (sym e))
-    ∙ none_case (number f) xs k (read (suc k) (later 44 (drop (stop 44 t) t))) h
-
-pub collect_on : (xs : List ℤ) (k : ℕ) (s t f m : List ℕ) (z : ℤ) → 0 < length s → t ≡ take (length s - 1) (drop 1 s) → f ≡ take (stop 44 t) t → m ≡ drop (stop 44 t) t → Some z ≡ option_map held (number f) → collect xs k (later 44 s) ≡ collect (xs ++ z ∷ []) (k + 1) (later 44 m)
-collect_on xs k s t f m z some u e d h =
+pub collect_on : (xs : List ℤ) (k n : ℕ) (gs : List (List ℕ)) (f : List ℕ) (z : ℤ) → n < length gs → f ≡ get_or gs n f → Some z ≡ option_map held (number f) → collect xs k (drop n gs) ≡ collect (xs ++ z ∷ []) (k + 1) (drop (n + 1) gs)
+collect_on xs k n gs f z h e q =
     let j : suc k ≡ k + 1 = omega arith in
-    ap (collect xs k) (later_step 44 s some ∙ ap (parts 44) (sym u) ∙ parts_step 44 t ∙ ap (λ g. g ∷ later 44 (drop (stop 44 t) t)) (sym e) ∙ ap (λ r. f ∷ later 44 r) (sym d))
-    ∙ some_case (number f) xs k (read (suc k) (later 44 m)) z h
-    ∙ ap (λ i. collect (xs ++ z ∷ []) i (later 44 m)) j
+    at_drop_more (collect xs k) gs n f h ∙ ap (λ g. collect xs k (g ∷ drop (n + 1) gs)) (sym e)
+    ∙ some_case (number f) xs k (read (suc k) (drop (n + 1) gs)) z q
+    ∙ ap (λ i. collect (xs ++ z ∷ []) i (drop (n + 1) gs)) j
 
-pub collect_all : (xs : List ℤ) (k : ℕ) (s : List ℕ) → length s ≡ 0 → collect xs k (later 44 s) ≡ Ok xs
-collect_all xs k [] h = ap Ok (append-nil xs)
-collect_all xs k (c ∷ cs) h = absurd (omega arith)
+pub collect_all : (xs : List ℤ) (k n : ℕ) (gs : List (List ℕ)) → length gs ≤ n → collect xs k (drop n gs) ≡ Ok xs
+collect_all xs k n gs h = at_drop_all (collect xs k) gs n h ∙ ap Ok (append-nil xs)
+
+-- ---- the fields after the first, as a loop over the parts of a line gives them, each with its number
+
+part_of : (ps : List (List ℕ)) (k i : ℕ) (f : List ℕ) → (k < length (drop 1 (enumerate_from 0 ps))) × ((i, f) ≡ get_or (drop 1 (enumerate_from 0 ps)) k (i, f)) → (k < length (drop 1 ps)) × (i ≡ k + 1) × (f ≡ get_or (drop 1 ps) k f)
+part_of [] k i f h = absurd (omega arith)
+part_of (p ∷ ps) k i f h =
+    let n : k < length ps = omega (arith, length-enumerate_from 1 ps) in
+    let e = h.1 ∙ get_or-enumerate_from 1 ps k (i, f) n in
+    let j : i ≡ 1 + k = ap (λ q. q.0) e in
+    (n, omega arith, ap (λ q. q.1) e)
+
+pub field_at : (s : List ℕ) (k i : ℕ) (f : List ℕ)
+    → (k < length (drop 1 (enumerate_from 0 (slice_split (λ c. c == 44) s)))) × ((i, f) ≡ get_or (drop 1 (enumerate_from 0 (slice_split (λ c. c == 44) s))) k (i, f))
+    → (k < length (drop 1 (fields s))) × (i ≡ k + 1) × (f ≡ get_or (drop 1 (fields s)) k f)
+field_at s k i f h =
+    let P : List (List ℕ) → Type 0 = λ ps. (k < length (drop 1 ps)) × (i ≡ k + 1) × (f ≡ get_or (drop 1 ps) k f) in
+    subst P (sym (parts_split 44 s)) (part_of (slice_split (λ c. c == 44) s) k i f h)
+
+end_of : (ps : List (List ℕ)) (k : ℕ) → k ≡ length (drop 1 (enumerate_from 0 ps)) → length (drop 1 ps) ≤ k
+end_of [] k e = omega arith
+end_of (p ∷ ps) k e = omega (arith, length-enumerate_from 1 ps)
+
+pub fields_end : (s : List ℕ) (k : ℕ) → k ≡ length (drop 1 (enumerate_from 0 (slice_split (λ c. c == 44) s))) → length (drop 1 (fields s)) ≤ k
+fields_end s k e = let P : List (List ℕ) → Type 0 = λ ps. length (drop 1 ps) ≤ k in subst P (sym (parts_split 44 s)) (end_of (slice_split (λ c. c == 44) s) k e)
+
+-- ---- a number, or the fault in its place
+
+pub was_none : {E : Type 0} (o : Option ℤ) (e f : E) → ok_or o e ≡ Err f → (None ≡ o) × (f ≡ e)
+was_none None e f h = (refl, cc)
+was_none (Some z) e f h = let q : ◌≡◌ {A = ℕ} 0 1 = cc in absurd (omega arith)
+
+pub was_some : {E : Type 0} (o : Option ℤ) (e : E) (z : ℤ) → ok_or o e ≡ Ok z → Some z ≡ o
+was_some None e z h = let q : ◌≡◌ {A = ℕ} 0 1 = cc in absurd (omega arith)
+was_some (Some y) e z h = cc

@@ -1,7 +1,9 @@
 pub mod Scans
 pub mod PartsAt
+pub mod CutForms
 pub mod NumberForms
 pub mod Collects
+pub mod FieldsCome
 pub mod Ranges
 pub mod Taken
 pub mod RowWays

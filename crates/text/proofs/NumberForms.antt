@@ -1,7 +1,6 @@
 -- The number of a field: what the scan gives, and what `signed` writes.
-use Rattle.std.proofs.Common.{◌≡◌, ℕ, zero, suc, ◌+◌, ◌-◌, ◌*◌, ◌^◌, ◌<◌, ◌≤◌, min, Bool, true, false, cond, not, ◌&&◌, ◌||◌, eqb, List, [], ◌∷◌, length, get_or, take, drop, ℤ, pos, negsuc, neg_ℤ, Some, None, decimal, Option, sym, refl, ap, ◌∙◌, ⊎_elim, arith, rules, eq-eqb, ne_eqb}
+use Rattle.std.proofs.Common.{◌≡◌, ℕ, zero, suc, ◌+◌, ◌-◌, ◌*◌, ◌^◌, ◌<◌, ◌≤◌, min, Bool, true, false, cond, not, ◌&&◌, ◌||◌, eqb, List, [], ◌∷◌, length, get_or, ℤ, pos, negsuc, Some, None, decimal, Option, sym, refl, ap, ◌∙◌, ⊎_elim, arith, rules, eq-eqb, ne_eqb}
 use lib.Signed.{mag}
-use Rattle.std.proofs.lemmas.List.{take_rest}
 use Rattle.std.proofs.lemmas.Bool.{cond-true, cond-false, and_from, and_parts, cases_eq}
 use Rattle.std.proofs.lemmas.Bool.Decides.{nat_tests}
 use Rattle.std.specs.Fmt.{signed_decimal}
@@ -10,7 +9,7 @@ use Rattle.std.specs.Option.{option_map}
 use Rattle.std.specs.Str.{all_ascii_digits}
 use Rattle.std.proofs.lemmas.Str.Parse.{IsNumeralModel, numerals_by_fold, not_in_digits}
 use Rattle.std.proofs.lemmas.Fmt.{decimal_digit, decimal-digits_value, digits_decimal, digits_value-decimal, decimal_nonempty, first_decimal}
-use Rattle.text.specs.Number.{read_on, natural, number, below, limit, most, held}
+use Rattle.text.specs.Number.{read_on, natural, number, below, limit}
 use Rattle.text.proofs.Scans.{scan}
 
 pub own : IsNumeralModel (λ ds. all_ascii_digits ds ≡ true) (read_on 0)
@@ -29,44 +28,12 @@ scan_is (c ∷ cs) n h =
       | false ↦ refl
     ]
 
-both : (a b : Bool) (n : ℕ) → b ≡ true → option_map (λ k. min limit k) (cond (a && b) (Some n) None) ≡ cond a (Some (min limit n)) None
-both true b n e = ap (λ v. option_map (λ k. min limit k) (cond v (Some n) None)) e
-both false b n e = refl
-
 lone : (c : ℕ) (cs : List ℕ) → (c ≡ 48 → length cs ≡ 0) → (not (eqb c 48) || eqb (length cs) 0) ≡ true
 lone c cs h = grind (arith, nat_tests)
-
-pub natural_plain : (s : List ℕ) → 0 < length s → (get_or s 0 0 ≡ 48 → length s ≤ 1) → option_map (λ k. min limit k) (natural s) ≡ cond (all_ascii_digits s) (Some (min limit (read_on 0 s))) None
-natural_plain [] h k = absurd (omega arith)
-natural_plain (c ∷ cs) h k = both (all_ascii_digits (c ∷ cs)) _ (read_on 0 (c ∷ cs)) (lone c cs (λ e. omega (arith, k e)))
-
-pub number_minus : (s : List ℕ) → 0 < length s → get_or s 0 0 ≡ 45 → number s ≡ below (natural (drop 1 s))
-number_minus [] h e = absurd (omega arith)
-number_minus (c ∷ cs) h e = cond-true (eqb c 45) _ _ (eq-eqb c 45 e)
 
 pub number_plain : (s : List ℕ) → 0 < length s → (get_or s 0 0 ≡ 45 → ⊥) → number s ≡ option_map pos (natural s)
 number_plain [] h e = absurd (omega arith)
 number_plain (c ∷ cs) h e = cond-false (eqb c 45) _ _ (ne_eqb c 45 e)
-
-pub minus_held : (o : Option ℕ) (n : ℕ) (z : ℤ) → 0 < n → z ≡ neg_ℤ (pos n) → Some n ≡ option_map (λ k. min limit k) o → Some z ≡ option_map held (below o)
-minus_held None n z h e p = let q : ◌≡◌ {A = ℕ} 0 1 = cc in absurd (omega arith)
-minus_held (Some zero) n z h e p = let q : n ≡ 0 = cc in absurd (omega arith)
-minus_held (Some (suc m)) n z h e p =
-    let q : n ≡ min limit (suc m) = cc in
-    let w : n ≡ suc (min most m) = omega arith in
-    ap Some (e ∙ ap (λ (k : ℕ). neg_ℤ (pos k)) w)
-
-pub minus_none : (o : Option ℕ) → ((n : ℕ) → Some n ≡ option_map (λ k. min limit k) o → n ≤ 0) → None ≡ option_map held (below o)
-minus_none None h = refl
-minus_none (Some zero) h = refl
-minus_none (Some (suc m)) h = absurd (omega (arith, h (min limit (suc m)) refl))
-
-pub held_small : (o : Option ℕ) (n : ℕ) → Some n ≡ option_map (λ k. min limit k) o → n ≤ limit
-held_small None n p = let q : ◌≡◌ {A = ℕ} 0 1 = cc in absurd (omega arith)
-held_small (Some m) n p = let q : n ≡ min limit m = cc in omega arith
-
-pub number_below : (s : List ℕ) → 0 < length s → get_or s 0 0 ≡ 45 → number s ≡ below (natural (take (length s - 1) (drop 1 s)))
-number_below s h e = number_minus s h e ∙ ap (λ t. below (natural t)) (sym (take_rest s 1))
 
 -- what `signed` writes is read back
 

@@ -1,12 +1,7 @@
 -- The parts of a list of bytes: the first, those after it, and their number, from any place on; and put together again.
-use Rattle.std.proofs.Common.{◌≡◌, ℕ, suc, ◌+◌, ◌<◌, ◌≤◌, true, false, cond, eqb, List, [], ◌∷◌, ◌++◌, length, get_or, take, drop, sym, refl, ap, ◌∙◌, ⊎_elim, arith, eq-eqb, ne_eqb}
-use Rattle.std.proofs.lemmas.List.{at_drop_more, at_drop_all}
+use Rattle.std.proofs.Common.{◌≡◌, ℕ, suc, ◌<◌, true, false, cond, eqb, List, [], ◌∷◌, ◌++◌, length, get_or, take, drop, sym, refl, ap, ◌∙◌, ⊎_elim, arith, eq-eqb, ne_eqb}
 use Rattle.std.proofs.lemmas.Bool.{cond-true, cond-false, cases_eq}
 use Rattle.text.specs.Parts.{stop, onto, parts, later, together}
-
-onto_length : (c : ℕ) (fs : List (List ℕ)) → 0 < length fs → length (onto c fs) ≡ length fs
-onto_length c [] h = absurd (omega arith)
-onto_length c (f ∷ fs) h = refl
 
 -- the first part, and the parts of the rest that its step leaves
 pub parts_step : (b : ℕ) (s : List ℕ) → parts b s ≡ take (stop b s) s ∷ later b (drop (stop b s) s)
@@ -19,16 +14,6 @@ pub parts_some : (b : ℕ) (s : List ℕ) → 0 < length (parts b s)
 parts_some b s = omega (arith, ap length (parts_step b s))
 
 -- ---- how many there are, from a place on
-
-pub parts_here : (b : ℕ) (s : List ℕ) (i : ℕ) → i < length s → get_or s i 0 ≡ b → length (parts b (drop i s)) ≡ suc (length (parts b (drop (i + 1) s)))
-parts_here b s i h e = ap length (at_drop_more (parts b) s i 0 h ∙ cond-true (eqb (get_or s i 0) b) _ _ (eq-eqb (get_or s i 0) b e))
-
-pub parts_next : (b : ℕ) (s : List ℕ) (i : ℕ) → i < length s → (get_or s i 0 ≡ b → ⊥) → length (parts b (drop i s)) ≡ length (parts b (drop (i + 1) s))
-parts_next b s i h e =
-    ap length (at_drop_more (parts b) s i 0 h ∙ cond-false (eqb (get_or s i 0) b) _ _ (ne_eqb (get_or s i 0) b e)) ∙ onto_length _ _ (parts_some b (drop (i + 1) s))
-
-pub parts_end : (b : ℕ) (s : List ℕ) (i : ℕ) → length s ≤ i → length (parts b (drop i s)) ≡ 1
-parts_end b s i h = ap length (at_drop_all (parts b) s i h)
 
 -- ---- put together again
 

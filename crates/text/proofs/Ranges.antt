@@ -1,9 +1,10 @@
 -- A number that is held at the limit is in range just where the number itself is; what an accepted row has.
-use Rattle.std.proofs.Common.{◌≡◌, ℕ, suc, ◌+◌, ◌<◌, ◌≤◌, Bool, true, false, cond, not, ◌&&◌, ◌||◌, eqb, List, [], ◌∷◌, map, length, get_or, drop, ℤ, pos, negsuc, Some, None, Ok, Err, Option, Result, sym, refl, ap, ◌∙◌, ⊎_elim, arith, eq-eqb, ne_eqb, eqb-true, leb-true}
+use Rattle.std.proofs.Common.{◌≡◌, ℕ, suc, ◌+◌, ◌<◌, ◌≤◌, Bool, true, false, cond, not, ◌&&◌, ◌||◌, eqb, List, [], ◌∷◌, map, length, ℤ, pos, negsuc, Some, None, Ok, Err, Option, Result, sym, refl, ap, ◌∙◌, ⊎_elim, arith, eq-eqb, ne_eqb, eqb-true, leb-true}
 use lib.Signed.{le_z}
 use Rattle.std.specs.Str.{bytes_eq}
 use Rattle.std.proofs.lemmas.Slice.Eq.{bytes_eq-Decides}
-use Rattle.std.proofs.lemmas.List.{length-map, at_drop_more, at_drop_all}
+use Rattle.std.proofs.lemmas.Iterator.Adapters.{position_from-zero}
+use Rattle.std.specs.List.{position, position_from, zip}
 use Rattle.std.proofs.lemmas.Bool.{cond-true, cond-false, and_parts, and_left, cases_Bool}
 use Rattle.std.proofs.lemmas.Bool.Decides.{nat_tests}
 use Rattle.text.specs.declared.row.RowFault.{RowFault}
@@ -56,14 +57,24 @@ held_near : (zs : List ℤ) → Near zs → map held zs ≡ zs
 held_near [] h = refl
 held_near (z ∷ zs) h = ap (λ y. y ∷ map held zs) (near_held z h.0) ∙ ap (λ ys. z ∷ ys) (held_near zs h.1)
 
--- ---- the place of the first number outside, from a place on
+-- ---- the place of the first number outside, by its index
 
-pub outside_at : (k i : ℕ) (bs : List Bound) (zs : List ℤ) (b : Bound) (z : ℤ) → i < length bs → i < length zs → outside k (drop i bs) (drop i zs) ≡ cond (inside (get_or bs i b) (get_or zs i z)) (outside (suc k) (drop (i + 1) bs) (drop (i + 1) zs)) k
-outside_at k i bs zs b z h g =
-    at_drop_more (λ l. outside k l (drop i zs)) bs i b h ∙ at_drop_more (λ l. outside k (get_or bs i b ∷ drop (i + 1) bs) l) zs i z g
+abbrev pub place_of : Option ℕ → ℕ
+place_of None = 0
+place_of (Some i) = i + 2
 
-pub outside_end : (k i : ℕ) (bs : List Bound) (zs : List ℤ) → length bs ≤ i → outside k (drop i bs) zs ≡ 0
-outside_end k i bs zs h = at_drop_all (λ l. outside k l zs) bs i h
+outside_from : (i : ℕ) (bs : List Bound) (zs : List ℤ) → outside (i + 2) bs zs ≡ place_of (position_from (λ p. not (inside p.0 p.1)) i (zip bs zs))
+outside_from i [] zs = refl
+outside_from i (b ∷ bs) [] = refl
+outside_from i (b ∷ bs) (z ∷ zs) =
+    let next : suc (i + 2) ≡ i + 1 + 2 = omega arith in
+    elim (inside b z) as (λ v. cond v (outside (suc (i + 2)) bs zs) (i + 2) ≡ place_of (cond (not v) (Some i) (position_from (λ p. not (inside p.0 p.1)) (i + 1) (zip bs zs)))) [
+      | true ↦ ap (λ k. outside k bs zs) next ∙ outside_from (i + 1) bs zs
+      | false ↦ refl
+    ]
+
+pub outside_place : (bs : List Bound) (zs : List ℤ) (o : Option ℕ) → o ≡ position (λ p. not (inside p.0 p.1)) (zip bs zs) → place_of o ≡ outside 2 bs zs
+outside_place bs zs o e = ap place_of (e ∙ position_from-zero (λ p. not (inside p.0 p.1)) (zip bs zs)) ∙ sym (outside_from 0 bs zs)
 
 -- ---- rows
 
@@ -85,11 +96,6 @@ held_ok (Err f) vs e = let q : ◌≡◌ {A = ℕ} 0 1 = cc in absurd (omega ari
 pub held_err : (r : Result (List ℤ) RowFault) (e : RowFault) → held_all r ≡ Err e → r ≡ Err e
 held_err (Ok zs) e h = let q : ◌≡◌ {A = ℕ} 0 1 = cc in absurd (omega arith)
 held_err (Err f) e h = h
-
-pub row_length : (fs : List (List ℕ)) (vs : List ℤ) → held_all (read 2 fs) ≡ Ok vs → length vs ≡ length fs
-row_length fs vs e =
-    let p = held_ok (read 2 fs) vs e in
-    ap length p.2 ∙ length-map p.0 held ∙ read_length 2 fs p.0 p.1
 
 -- a line of its kind, by the fields after it
 pub row_same : (kind : List ℕ) (bs : List Bound) (f : List ℕ) (fs : List (List ℕ)) → f ≡ kind → length fs ≡ length bs → row kind bs (f ∷ fs) ≡ ranged bs (read 2 fs)

@@ -1,9 +1,9 @@
 -- The first bytes of a text to which more is added.
-use Rattle.std.proofs.Common.{◌≡◌, ℕ, zero, suc, ◌+◌, ◌<◌, ◌≤◌, List, [], ◌∷◌, ◌++◌, length, take, set, sym, refl, ap, ◌∙◌, append_assoc, add-one, arith, length-append, length-take, take_all, take-suc-set}
-use Rattle.std.proofs.lemmas.List.{append-nil}
+use Rattle.std.proofs.Common.{◌≡◌, ℕ, zero, suc, ◌+◌, ◌≤◌, min, List, [], ◌∷◌, ◌++◌, length, take, sym, refl, ap, ◌∙◌, append_assoc, arith, take_all}
+use Rattle.std.proofs.lemmas.List.{append-nil, take_min}
+use Rattle.std.proofs.Math.Seq.{take-append-add}
 use Rattle.text.specs.Pages.{most_bytes, written}
 use Rattle.text.specs.declared.page.Page.{Page}
-use lib.Seq.{take-append-le}
 
 -- what was left out is left out of what follows too
 take_on : (m : ℕ) (xs ys : List ℕ) → take m (take m xs ++ ys) ≡ take m (xs ++ ys)
@@ -15,20 +15,14 @@ take_on (suc m) (x ∷ xs) ys = ap (λ t. x ∷ t) (take_on m xs ys)
 pub take_twice : (m : ℕ) (ws xs ys vs : List ℕ) → vs ≡ take m (ws ++ xs) → take m (vs ++ ys) ≡ take m (ws ++ (xs ++ ys))
 take_twice m ws xs ys vs e = ap (λ t. take m (t ++ ys)) e ∙ take_on m (ws ++ xs) ys ∙ ap (take m) (append_assoc ws xs ys)
 
--- a byte is put at place n, after the first n
-pub take_put : (m n : ℕ) (xs : List ℕ) (b : ℕ) → length xs ≡ m → n < m → take (n + 1) (set xs n b) ≡ take m (take n xs ++ b ∷ [])
-take_put m n xs b h k =
-    let short : length (take n xs ++ b ∷ []) ≤ m = omega (arith, length-append (take n xs) (b ∷ []), length-take n xs) in
-    ap (λ i. take i (set xs n b)) (add-one n) ∙ take-suc-set xs n b (omega arith) ∙ sym (take_all m (take n xs ++ b ∷ []) short)
-
--- a full page takes nothing more
-pub take_full : (m n : ℕ) (xs : List ℕ) (b : ℕ) → length xs ≡ m → m ≤ n → take n xs ≡ take m (take n xs ++ b ∷ [])
-take_full m n xs b h k =
-    let all = take_all n xs (omega arith) in
-    all ∙ sym (take_all m xs (omega arith)) ∙ sym (take-append-le m xs (b ∷ []) (omega arith)) ∙ ap (λ t. take m (t ++ b ∷ [])) (sym all)
+-- as much of a text as there is room for
+pub taken_room : (m n : ℕ) (ws xs : List ℕ) → n + length ws ≡ m → ws ++ take (min n (length xs)) xs ≡ take m (ws ++ xs)
+taken_room m n ws xs h =
+    let k : m ≡ length ws + n = omega arith in
+    ap (λ t. ws ++ t) (take_min n xs) ∙ sym (ap (λ i. take i (ws ++ xs)) k ∙ take-append-add ws xs n)
 
 -- what a page holds is not cut
 pub page_whole : (p : Page) → written p ≡ take most_bytes (written p ++ [])
 page_whole p =
-    let short : length (written p) ≤ most_bytes = omega (arith, length-take p.len p.bytes, p.within) in
+    let short : length (written p) ≤ most_bytes = p.within in
     sym (ap (take most_bytes) (append-nil (written p)) ∙ take_all most_bytes (written p) short)

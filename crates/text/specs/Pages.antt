@@ -1,5 +1,5 @@
 -- What a page holds, and what a buffer holds after a text was put into it.
-use Rattle.std.specs.Prelude.{ℕ, cond, List, ◌++◌, length, take, drop, Ok, Err, Result, nat_lt}
+use Rattle.std.specs.Prelude.{ℕ, cond, List, ◌++◌, length, drop, Ok, Err, Result, nat_lt}
 use Rattle.text.specs.declared.page.Page.{Page}
 use Rattle.text.specs.declared.page.TooSmall.{TooSmall}
 
@@ -9,7 +9,7 @@ most_bytes = 16384
 
 -- the text that was written so far
 abbrev pub written : Page → List ℕ
-written p = take p.len p.bytes
+written p = p.bytes.items
 
 -- the answer to a text of so many bytes for a buffer of so many: its length, or that the buffer is too small
 abbrev pub fitted : ℕ → ℕ → Result ℕ TooSmall

@@ -1,29 +1,23 @@
 // Cutting bytes at a separator, one part at a time.
-ghost use Rattle.std.specs.Prelude.{◌≡◌, ◌+◌, length, take, drop};
+// Bytes and separator stay two arguments: callers cut one text at several separators in turn.
+ghost use Rattle.std.specs.Prelude.{◌≡◌, ◌+◌, ◌==◌, length, take, drop};
+ghost use Rattle.std.specs.List.{position};
 ghost use Rattle.text.specs.Parts.{stop, parts};
 
+// The place of the first `separator`.
+fn place(rest: &[u8], separator: u8) -> Option<usize>
+    ensures { result ≡ position (λ b. b == separator) rest.now }
+{
+    rest.iter().position(|b| *b == separator)
+}
+
+#[tactic(auto, using(crate::proofs::CutForms::stop_within))]
 fn cut(rest: &[u8], separator: u8) -> (&[u8], &[u8])
     ensures part_ends_at_separator { result.0.now ≡ take (stop separator rest.now) rest.now }
     ensures rest_begins_there { result.1.now ≡ drop (stop separator rest.now) rest.now }
 {
-    for (i, x) in rest.iter().enumerate() {
-        if *x == separator {
-            return rest.split_at(i);
-        }
-    }
-    rest.split_at(rest.len())
-}
-
-fn count(s: &[u8], separator: u8) -> usize
-    ensures one_fewer_than_parts { result + 1 ≡ length (parts separator s.now) }
-{
-    let mut found = 0;
-    for b in s {
-        if *b == separator {
-            found += 1;
-        }
-    }
-    found
+    let end = place(rest, separator).unwrap_or(rest.len());
+    rest.split_at(end)
 }
 
 // The part of `rest` before the first `separator`, and the rest from that separator on.
@@ -36,8 +30,9 @@ pub fn step(rest: &[u8], separator: u8) -> (&[u8], &[u8])
 }
 
 // How many separators there are: one fewer than there are parts.
+#[tactic(auto, using(crate::proofs::CutForms::parts_count))]
 pub(crate) fn separators(s: &[u8], separator: u8) -> usize
     ensures one_fewer_than_parts { result + 1 ≡ length (parts separator s.now) }
 {
-    count(s, separator)
+    s.iter().filter(|b| **b == separator).count()
 }

@@ -1,9 +1,10 @@
 // A line of a kind and numbers: its fields are tried one by one.
-ghost use Rattle.std.specs.Prelude.{◌≡◌, length};
-ghost use Rattle.text.specs.declared.row.RowError.TheVariants.{NoMemory};
+ghost use Rattle.std.specs.Prelude.{◌≡◌, ◌<◌, ◌&&◌, drop, length, not, int_le, IfSome};
+ghost use Rattle.std.specs.List.{position, zip};
+ghost use Rattle.text.specs.declared.row.RowError.TheVariants.{Refused, NoMemory};
 ghost use Rattle.text.specs.Number.{near};
-ghost use Rattle.text.specs.Parts.{fields, later};
-ghost use Rattle.text.specs.Rows.{read, held_all, outside as outside_of, inside, Answers, row as row_of};
+ghost use Rattle.text.specs.Parts.{fields};
+ghost use Rattle.text.specs.Rows.{read, held_all, inside, Answers, row as row_of};
 
 use crate::cut::{separators, step};
 use crate::number::number;
@@ -24,19 +25,27 @@ const MOST: i64 = 1_000_000_000_000_000_000;
 fn is_near(n: i64) -> bool
     ensures within_any_field { result ≡ near n }
 {
-    -MOST <= n && n <= MOST
+    (-MOST..=MOST).contains(&n)
 }
 
 impl Bound {
+    // Whether a number stands between the least and the largest.
+    fn spans(&self, n: i64) -> bool
+        ensures between_them { result ≡ (int_le self.now.low n && int_le n self.now.high) }
+    {
+        (self.low..=self.high).contains(&n)
+    }
+
     // Whether a field may have this number.
     pub(crate) fn allows(&self, n: i64) -> bool
         ensures within_the_bound { result ≡ inside self.now n }
     {
-        is_near(n) && self.low <= n && n <= self.high && (self.zero || n != 0)
+        is_near(n) && self.spans(n) && (self.zero || n != 0)
     }
 }
 
-// Why a line is refused: its form or its range, with the field's place from 1 (0 for a wrong count).
+// Why a line is refused: its form or its range, with the field's place from 1.
+// A wrong count of fields has place 0, since the format of a refusal prints 0 where it has no field.
 #[derive(Clone, Copy)]
 pub enum RowFault {
     Form(usize),
@@ -58,36 +67,32 @@ impl<T: Drop> From<AllocFailed<T>> for RowError {
     }
 }
 
-// The numbers of the fields of `line` after its first comma, where it begins.
+impl From<RowFault> for RowError {
+    ghost from_gives = { λ f r. r ≡ Refused f };
+
+    fn from(fault: RowFault) -> RowError {
+        RowError::Refused(fault)
+    }
+}
+
+// The numbers of the fields of `line` after the first one.
 fn numbers(heap: Global, line: &[u8]) -> Result<Vec<i64>, RowError>
-    ensures each_by_its_form { Answers result (held_all (read 2 (later 44 line.now))) }
+    ensures each_by_its_form { Answers result (held_all (read 2 (drop 1 (fields line.now)))) }
 {
     let mut found = Vec::new(heap);
-    let mut rest = line;
-    let mut place = 2;
-    while !rest.is_empty() {
-        let (field, more) = step(&rest[1..], b',');
-        match number(field) {
-            Some(n) => found.push(n)?,
-            None => return Err(RowError::Refused(RowFault::Form(place))),
-        }
-        rest = more;
-        place += 1;
+    for (i, field) in line.split(|b| *b == b',').enumerate().skip(1) {
+        let n = number(field).ok_or(RowFault::Form(i + 1))?;
+        found.push(n)?;
     }
     Ok(found)
 }
 
-// The place of the first number, counted from 2, that is not within its bound, or 0.
-fn outside(bounds: &[Bound], values: &[i64]) -> usize
-    requires { length bounds.now ≡ length values.now }
-    ensures first_outside { result ≡ outside_of 2 bounds.now values.now }
+// The index of the first number that is not within its bound.
+fn first_outside(bounds: &[Bound], values: &[i64]) -> Option<usize>
+    ensures first { result ≡ position (λ p. not (inside p.0 p.1)) (zip bounds.now values.now) }
+    ensures is_one_of_them { IfSome result (λ i. i < length values.now) }
 {
-    for (i, b) in bounds.iter().enumerate() {
-        if !b.allows(values[i]) {
-            return i + 2;
-        }
-    }
-    0
+    bounds.iter().zip(values).position(|(b, n)| !b.allows(*n))
 }
 
 // The numbers of a line, as the public function below says.
@@ -99,19 +104,18 @@ fn numbers_of_row(
 ) -> Result<Vec<i64>, RowError>
     ensures reads_the_row { Answers result (row_of kind.now bounds.now (fields line.now)) }
 {
-    let (first, more) = step(line, b',');
+    let (first, _) = step(line, b',');
     if first != kind {
-        return Err(RowError::Refused(RowFault::Form(1)));
+        return Err(RowFault::Form(1).into());
     }
     if separators(line, b',') != bounds.len() {
-        return Err(RowError::Refused(RowFault::Form(0)));
+        return Err(RowFault::Form(0).into());
     }
-    let values = numbers(heap, more)?;
-    let place = outside(bounds, values.as_slice());
-    if place != 0 {
-        return Err(RowError::Refused(RowFault::Range(place)));
+    let values = numbers(heap, line)?;
+    match first_outside(bounds, &values) {
+        Some(i) => Err(RowFault::Range(i + 2).into()),
+        None => Ok(values),
     }
-    Ok(values)
 }
 
 // The numbers of a line of this kind, one for each bound: the kind is tried first, then the count of fields,

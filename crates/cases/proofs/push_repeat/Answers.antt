@@ -5,12 +5,12 @@ use Rattle.cases.proofs.push_repeat.Goals as goal
 pub returns : goal.returns
 returns c =
     let s = c.args.s.now in
-    let t = c.past.result.now in
+    let t = c.after.result.now in
     record {
       no_longer = omega (
         arith,
-        c.past-2.ensures.fewer_by_n,
-        c.past.ensures.fewer_by_n,
+        c.after-2.ensures.one_fewer,
+        c.after.ensures.one_fewer,
         ap length c.step.ensures.rest_begins_there,
         length-drop (stop 59 s) s,
         ap length c.step-2.ensures.rest_begins_there,

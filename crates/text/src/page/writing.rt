@@ -1,61 +1,36 @@
 // Writing a page, and copying a text into a buffer.
-ghost use Rattle.std.specs.Prelude.{◌≡◌, ◌<◌, [], ◌∷◌, ◌++◌, length, take, decimal};
+ghost use Rattle.std.specs.Prelude.{◌≡◌, [], ◌++◌, length, take};
 ghost use Rattle.std.specs.Fmt.{signed_decimal};
 ghost use Rattle.text.specs.Pages.{most_bytes, written, fitted, placed};
 ghost use Rattle.text.specs.Rows.{line as line_text};
 
-use crate::page::{MOST_BYTES, Page, TooSmall};
+use crate::page::{Page, TooSmall};
+use arrayvec::ArrayVec;
 
 impl Page {
     pub fn new() -> Page
         ensures empty { written result ≡ [] }
     {
         Page {
-            bytes: [0; MOST_BYTES],
-            len: 0,
+            bytes: ArrayVec::new(),
         }
     }
 
-    // One byte more.
-    fn push(&mut self, b: u8)
-        ensures appended { written self.new ≡ take most_bytes (written self.old ++ b ∷ []) }
-    {
-        let at = self.len;
-        if at < MOST_BYTES {
-            self.bytes[at] = b;
-            self.len = at + 1;
-        }
-    }
-
-    // These bytes, one after the other.
+    // These bytes; what passes the end is left out.
     fn push_all(&mut self, bytes: &[u8])
         ensures appended { written self.new ≡ take most_bytes (written self.old ++ bytes.now) }
     {
-        for b in bytes {
-            self.push(*b);
-        }
-    }
-
-    // A number's digits, the last one last.
-    fn push_digits(&mut self, n: u64)
-        ensures appended { written self.new ≡ take most_bytes (written self.old ++ decimal n) }
-    {
-        if n >= 10 {
-            self.push_digits(n / 10);
-        }
-        self.push(b'0' + (n % 10) as u8);
+        let room = self.bytes.remaining_capacity();
+        let fitting = &bytes[..room.min(bytes.len())];
+        // As many bytes as there is room for are never refused.
+        let _fits = self.bytes.try_extend_from_slice(fitting);
     }
 
     // A number with its sign, if it is below 0.
     fn push_number(&mut self, n: i64)
         ensures appended { written self.new ≡ take most_bytes (written self.old ++ signed_decimal n) }
     {
-        if n < 0 {
-            self.push(b'-');
-            self.push_digits(n.unsigned_abs());
-        } else {
-            self.push_digits(n.unsigned_abs());
-        }
+        self.push_all(itoa::Buffer::new().format(n).as_bytes());
     }
 
     // A line of this kind and these numbers.
@@ -64,10 +39,10 @@ impl Page {
     {
         self.push_all(kind);
         for v in values {
-            self.push(b',');
+            self.push_all(b",");
             self.push_number(*v);
         }
-        self.push(b'\n');
+        self.push_all(b"\n");
     }
 
     // Adds a line of this kind and these numbers; what passes the end of the page is left out.
@@ -81,7 +56,7 @@ impl Page {
     pub fn text(&self) -> &[u8]
         ensures value { result.now ≡ written self.now }
     {
-        &self.bytes[0..self.len]
+        self.bytes.as_slice()
     }
 }
 
@@ -94,6 +69,6 @@ pub fn put(text: &[u8], out: &mut [u8]) -> Result<usize, TooSmall>
     if out.len() < n {
         return Err(TooSmall);
     }
-    out[0..n].copy_from_slice(text);
+    out[..n].copy_from_slice(text);
     Ok(n)
 }

@@ -1,20 +1,16 @@
-use Rattle.std.proofs.Common.{[], ◌∷◌, ◌++◌, get_or, take, sym, ap, ◌∙◌, take_all}
-use Rattle.std.proofs.lemmas.List.{take_more}
+use Rattle.std.proofs.Common.{◌++◌, take, ◌∙◌, ap, arith, IsOk, OnOk, Ok, Err, Result, length-take}
 use Rattle.text.specs.Pages.{most_bytes, written}
-use Rattle.text.proofs.Taken.{take_twice, page_whole}
+use Rattle.text.proofs.Taken.{taken_room}
 use Rattle.text.proofs.page.Page.push_all.Goals as goal
 
-pub loop-b-init : goal.loop-b-init
-loop-b-init c = page_whole c.args.self.now
-
-pub loop-b-preserved : goal.loop-b-preserved
-loop-b-preserved c =
-    let i = c.loop-b.b-index in
-    let bs = c.args.bytes.now in
-    let start = written c.args.self.now in
-    c.push.ensures.appended
-    ∙ take_twice most_bytes start (take i bs) (get_or bs i 0 ∷ []) (written c.loop-b.self) c.loop-b.invariant
-    ∙ ap (λ t. take most_bytes (start ++ t)) (sym (take_more bs i 0 c.loop-b-test.true))
+on_ok : {T E P : Type 0} (r : Result T E) → IsOk r → OnOk r P → P
+on_ok (Ok x) i p = p
+on_ok (Err e) i p = cc
 
 pub returns : goal.returns
-returns c = record { appended = c.loop-b.invariant ∙ ap (λ t. take most_bytes (written c.args.self.now ++ t)) (take_all c.loop-b.b-index c.args.bytes.now c.loop-b-test.false) }
+returns c =
+    let start = written c.args.self.now in
+    let bs = c.args.bytes.now in
+    let room = c.remaining_capacity-room.result in
+    let done = on_ok c.try_extend_from_slice-fits.result (c.try_extend_from_slice-fits.ensures.variant.1 (omega (arith, c.remaining_capacity-room.ensures, c.min.ensures, length-take c.min.result bs))) c.try_extend_from_slice-fits.ensures.ok in
+    record { appended = done ∙ ap (λ k. start ++ take k bs) c.min.ensures ∙ taken_room most_bytes room start bs c.remaining_capacity-room.ensures }

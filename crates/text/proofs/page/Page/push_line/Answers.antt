@@ -21,10 +21,10 @@ loop-v-preserved c =
     let start = written c.push_all.new.self in
     let done = flat_map part (take i zs) in
     let fits : SFits w64 (get_or zs i (pos 0)) = search rules in
-    let number : written c.push_number.new.self ≡ take most_bytes (written c.push.new.self ++ signed_decimal (get_or zs i (pos 0))) = (simp to_z-of_z at c.push_number.ensures).appended in
+    let number : written c.push_number.new.self ≡ take most_bytes (written c.push_all-in-loop-v.new.self ++ signed_decimal (get_or zs i (pos 0))) = (simp to_z-of_z at c.push_number.ensures).appended in
     number
-    ∙ take_twice most_bytes start (done ++ 44 ∷ []) (signed_decimal (get_or zs i (pos 0))) (written c.push.new.self)
-    (c.push.ensures.appended ∙ take_twice most_bytes start done (44 ∷ []) (written c.loop-v.self) c.loop-v.invariant)
+    ∙ take_twice most_bytes start (done ++ 44 ∷ []) (signed_decimal (get_or zs i (pos 0))) (written c.push_all-in-loop-v.new.self)
+    (c.push_all-in-loop-v.ensures.appended ∙ take_twice most_bytes start done (44 ∷ []) (written c.loop-v.self) c.loop-v.invariant)
     ∙ ap (λ t. take most_bytes (start ++ t)) (append_assoc done (44 ∷ []) (signed_decimal (get_or zs i (pos 0))) ∙ flat_map_more part [] (take i zs) (get_or zs i (pos 0)) ∙ ap (flat_map part) (sym (take_more zs i (pos 0) c.loop-v-test.true)))
 
 pub returns : goal.returns
@@ -36,7 +36,7 @@ returns c =
     let numbers : written c.loop-v.self ≡ take most_bytes (after_kind ++ flat_map part zs) = c.loop-v.invariant ∙ ap (λ t. take most_bytes (after_kind ++ flat_map part t)) (take_all c.loop-v.v-index zs c.loop-v-test.false) in
     record {
       line_is_appended =
-          c.push-2.ensures.appended
+          c.push_all-2.ensures.appended
           ∙ take_twice most_bytes after_kind (flat_map part zs) (10 ∷ []) (written c.loop-v.self) numbers
           ∙ take_twice most_bytes start kind (flat_map part zs ++ 10 ∷ []) after_kind c.push_all.ensures.appended
           ∙ ap (λ t. take most_bytes (start ++ t)) (line_shape kind zs);
