@@ -5,7 +5,7 @@ ghost use Rattle.book.specs.declared.fault.ReadFault.TheVariants.{NoMemory};
 use std::alloc::AllocFailed;
 
 // What is wrong with a file.
-#[derive(Clone, Copy)]
+#[derive(Clone, Copy, Debug, PartialEq, Eq)]
 pub enum Cause {
     // the first line is not `book,1`
     Heading,
@@ -24,7 +24,7 @@ pub enum Cause {
 }
 
 // A refused file: the cause, and where: the line and the field, from 1, or 0 where the cause has no such place.
-#[derive(Clone, Copy)]
+#[derive(Clone, Copy, Debug, PartialEq, Eq)]
 pub struct Refusal {
     pub cause: Cause,
     pub line: usize,
@@ -32,7 +32,7 @@ pub struct Refusal {
 }
 
 // Why a file gives no book: it is refused, or there is no memory.
-#[derive(Clone, Copy)]
+#[derive(Clone, Copy, Debug, PartialEq, Eq)]
 pub enum ReadFault {
     Refused(Refusal),
     NoMemory,
@@ -47,7 +47,7 @@ impl<T: Drop> From<AllocFailed<T>> for ReadFault {
 }
 
 // Why a book gives no file.
-#[derive(Clone, Copy)]
+#[derive(Clone, Copy, Debug, PartialEq, Eq)]
 pub enum WriteFault {
     EmptyBook,
     SmallBuffer,

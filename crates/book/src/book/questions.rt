@@ -112,12 +112,9 @@ impl Book {
     fn invoice_price(&self, asset: usize) -> u64
         ensures value { result ≡ invoice (contents self.now) asset }
     {
-        let assets = self.assets.as_slice();
-        if asset < assets.len() {
-            assets[asset].invoice_price(self.terms.price)
-        } else {
-            0
-        }
+        self.assets
+            .get(asset)
+            .map_or(0, |a| a.invoice_price(self.terms.price))
     }
 
     // The value of so many contracts of an asset, in centavos.

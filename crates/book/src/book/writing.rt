@@ -92,10 +92,7 @@ impl Book {
             return Err(WriteFault::EmptyBook);
         }
         let page = self.page();
-        match put(page.text(), out) {
-            Ok(n) => Ok(n),
-            Err(_) => Err(WriteFault::SmallBuffer),
-        }
+        put(page.text(), out).map_err(|_| WriteFault::SmallBuffer)
     }
 
     // Writes the book's file at the start of `out`, and answers its length. Later bytes stay as they were; where
