@@ -1,4 +1,3 @@
-pub mod AllOf
 pub mod RecordValues
 pub mod ReaderTurns
 pub mod Inversions
@@ -13,3 +12,4 @@ pub mod BookKept
 pub mod PageOfBook
 pub mod WriteWays
 pub mod RowOf
+pub mod SumOf

@@ -14,6 +14,7 @@ use crate::awaits::Awaits;
 use crate::fault::{Cause, ReadFault, Refusal};
 use crate::limits::{MOST_ASSETS, MOST_HOLDERS};
 use crate::records::{Asset, Holder, Terms};
+use crate::rows::{Rows, agrees, ascends};
 use std::alloc::Global;
 use text::cut::step;
 use text::page::MOST_BYTES;
@@ -27,9 +28,6 @@ pub struct Draft {
     pub assets: Vec<Asset>,
     pub holders: Vec<Holder>,
 }
-
-// The most contracts bought in a book.
-const MOST_BOUGHT: u64 = 1_000_000;
 
 // The range of each field, as the file's format has it.
 const TERMS_BOUNDS: [Bound; 2] = [
@@ -169,75 +167,6 @@ fn holder_of(values: &[i64]) -> Holder
         agent: size(values, 3) as u8,
         position: position_of(values[4]),
     }
-}
-
-impl Holder {
-    // Contracts bought.
-    fn gained(&self) -> u64
-        ensures value { result ≡ (if buys_of self.now then volume_of self.now else 0) }
-        ensures small { result ≤ 2147483648 }
-    {
-        if self.position > 0 {
-            u64::from(self.position.unsigned_abs())
-        } else {
-            0
-        }
-    }
-
-    // Contracts sold.
-    fn lost(&self) -> u64
-        ensures value { result ≡ (if sells_of self.now then volume_of self.now else 0) }
-        ensures small { result ≤ 2147483648 }
-    {
-        if self.position < 0 {
-            u64::from(self.position.unsigned_abs())
-        } else {
-            0
-        }
-    }
-
-    // Whether this row stands before `h`: by member, then number.
-    fn stands_before(&self, h: &Holder) -> bool
-        ensures value { result ≡ stands_before self.now h.now }
-    {
-        if self.member == h.member {
-            self.number < h.number
-        } else {
-            self.member < h.member
-        }
-    }
-
-    // Whether both rows have one clearing member for one member, and one payment agent for one clearing member.
-    fn agrees_with(&self, h: &Holder) -> bool
-        ensures value { result ≡ agree self.now h.now }
-    {
-        (self.member != h.member || self.clearing == h.clearing)
-            && (self.clearing != h.clearing || self.agent == h.agent)
-    }
-}
-
-// Whether the row ascends after all of these.
-fn ascends(rows: &[Holder], h: &Holder) -> bool
-    ensures value { result ≡ ascends_of rows.now h.now }
-{
-    for g in rows {
-        if !g.stands_before(h) {
-            return false;
-        }
-    }
-    true
-}
-
-// Whether the row agrees with each of these.
-fn agrees(rows: &[Holder], h: &Holder) -> bool
-    ensures value { result ≡ agrees_of rows.now h.now }
-{
-    for g in rows {
-        if !g.agrees_with(h) {
-            return false;
-        }
-    }
-    true
 }
 
 fn same(a: &[u8], b: &[u8]) -> bool
@@ -396,30 +325,6 @@ impl Draft {
     }
 }
 
-// Contracts bought and contracts sold.
-pub(crate) fn traded(holders: &[Holder]) -> (u64, u64)
-    requires { length holders.now ≤ most_holders }
-    ensures bought { result.0 ≡ sum_by (λ h. (if buys_of h then volume_of h else 0)) holders.now }
-    ensures sold { result.1 ≡ sum_by (λ h. (if sells_of h then volume_of h else 0)) holders.now }
-{
-    let mut bought = 0;
-    let mut sold = 0;
-    for h in holders {
-        bought += h.gained();
-        sold += h.lost();
-    }
-    (bought, sold)
-}
-
-// Whether there are holders, as much is bought as sold, and not too much.
-fn is_complete(holders: &[Holder]) -> bool
-    requires { length holders.now ≤ most_holders }
-    ensures value { result ≡ complete_rows holders.now }
-{
-    let (bought, sold) = traded(holders);
-    0 < holders.len() && bought == sold && bought <= MOST_BOUGHT
-}
-
 // Reads the lines of a file.
 fn read_lines(heap: Global, file: &[u8]) -> Result<Draft, ReadFault>
     ensures by_the_definition { Gives draft_of result (read_on 1 start (parts 10 file.now)) }
@@ -448,7 +353,10 @@ pub(crate) fn read_file(heap: Global, file: &[u8]) -> Result<Draft, ReadFault>
         return refused(Cause::Size, 0, 0);
     }
     let draft = read_lines(heap, file)?;
-    if !is_complete(draft.holders.as_slice()) {
+    let rows = Rows {
+        holders: draft.holders.as_slice(),
+    };
+    if !rows.is_complete() {
         return refused(Cause::Holdings, 0, 0);
     }
     Ok(draft)

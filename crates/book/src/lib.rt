@@ -9,3 +9,4 @@ pub mod laws;
 pub mod limits;
 pub mod numbers;
 pub mod records;
+mod rows;
