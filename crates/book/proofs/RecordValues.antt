@@ -1,7 +1,7 @@
 -- The numbers of an accepted line: their sizes, and the record that they make, which has them as its numbers.
 use Rattle.std.proofs.Common.{◌≡◌, ℕ, zero, suc, ◌≤◌, true, false, List, [], ◌∷◌, length, get_or, ℤ, pos, negsuc, nat_abs, refl, ap, ◌∙◌, arith, leb-true}
 use Rattle.text.proofs.Ranges.{Within, each}
-use Rattle.text.proofs.RoundTrip.{Good}
+use Rattle.book.specs.Format.{Good}
 use Rattle.book.specs.Limits.{most_position}
 use Rattle.book.specs.Format.{from_to, position_bound, terms_bounds, asset_bounds, holder_bounds, terms_from, asset_from, holder_from, terms_values, asset_values, holder_values}
 
