@@ -13,3 +13,4 @@ pub mod PageOfBook
 pub mod WriteWays
 pub mod RowOf
 pub mod SumOf
+pub mod RowOnLine

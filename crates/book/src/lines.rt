@@ -2,6 +2,7 @@
 ghost use Rattle.std.specs.Prelude.{◌+◌, ◌≤◌, ◌^◌, length};
 
 pub mod cutting;
+pub mod reading;
 
 // A line: its bytes without the line end, its number from 1, and whether a line end follows it.
 #[derive(Clone, Copy)]
