@@ -7,7 +7,6 @@ pub mod TextReads
 pub mod SoundLawful
 pub mod TextLength
 pub mod OneFile
-pub mod ReadsEmpty
 pub mod BookKept
 pub mod PageOfBook
 pub mod WriteWays

@@ -1,6 +1,7 @@
 // Why a book is not read or not written.
 ghost use Rattle.std.specs.Prelude.{◌≡◌};
-ghost use Rattle.book.specs.declared.fault.ReadFault.TheVariants.{NoMemory};
+ghost use Rattle.book.specs.declared.fault.ReadFault.TheVariants.{Refused, NoMemory};
+ghost use Rattle.book.specs.Reading.{refuse};
 
 use std::alloc::AllocFailed;
 
@@ -36,6 +37,15 @@ pub struct Refusal {
 pub enum ReadFault {
     Refused(Refusal),
     NoMemory,
+}
+
+impl ReadFault {
+    // A refused file.
+    pub(crate) fn refused(cause: Cause, line: usize, field: usize) -> ReadFault
+        ensures value { result ≡ Refused (refuse cause line field) }
+    {
+        ReadFault::Refused(Refusal { cause, line, field })
+    }
 }
 
 impl<T: Drop> From<AllocFailed<T>> for ReadFault {

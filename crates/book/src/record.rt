@@ -124,7 +124,7 @@ impl Record for Terms {
 
     fn push_to(&self, page: &mut Page) {
         page.push_row(
-            b"terms",
+            Self::kind(),
             &[i64::from(self.multiplier), i64::from(self.price)],
         );
     }
@@ -157,7 +157,7 @@ impl Record for Asset {
 
     fn push_to(&self, page: &mut Page) {
         page.push_row(
-            b"asset",
+            Self::kind(),
             &[
                 i64::from(self.factor),
                 i64::from(self.accrued),
@@ -202,6 +202,6 @@ impl Record for Holder {
             i64::from(self.agent),
             i64::from(self.position),
         ];
-        page.push_row(b"holder", &values);
+        page.push_row(Self::kind(), &values);
     }
 }

@@ -6,7 +6,7 @@ ghost use Rattle.book.specs.declared.fault.ReadFault.TheVariants.{Refused};
 ghost use Rattle.book.specs.Reading.{refuse, is_kind};
 ghost use Rattle.book.specs.Data.{Gives, Ends, fault_on, record_of};
 
-use crate::fault::{Cause, ReadFault, Refusal};
+use crate::fault::{Cause, ReadFault};
 use crate::lines::Line;
 use crate::record::Record;
 use std::alloc::Global;
@@ -17,10 +17,9 @@ use text::row::{Bound, RowError, RowFault, read_row};
 fn on_line(e: RowError, line: usize) -> ReadFault
     ensures value { result ≡ fault_on line e }
 {
-    let refused = |cause, field| ReadFault::Refused(Refusal { cause, line, field });
     match e {
-        RowError::Refused(RowFault::Form(field)) => refused(Cause::Form, field),
-        RowError::Refused(RowFault::Range(field)) => refused(Cause::Range, field),
+        RowError::Refused(RowFault::Form(k)) => ReadFault::refused(Cause::Form, line, k),
+        RowError::Refused(RowFault::Range(k)) => ReadFault::refused(Cause::Range, line, k),
         RowError::NoMemory => ReadFault::NoMemory,
     }
 }
@@ -30,11 +29,7 @@ impl Line<'_> {
     pub(crate) fn refused(&self, cause: Cause, field: usize) -> ReadFault
         ensures value { result ≡ Refused (refuse cause self.now.number field) }
     {
-        ReadFault::Refused(Refusal {
-            cause,
-            line: self.number,
-            field,
-        })
+        ReadFault::refused(cause, self.number, field)
     }
 
     // A line end has to follow.
@@ -60,6 +55,7 @@ impl Line<'_> {
     fn numbers(&self, heap: Global, kind: &[u8], bounds: &[Bound]) -> Result<Vec<i64>, ReadFault>
         ensures by_the_definition { Gives vec_items result (record_of self.now.number (row kind.now bounds.now (fields self.now.bytes.now)) (λ zs. zs)) }
     {
+        // by value, since what a closure promises is inferred only where no capture names a lifetime
         let number = self.number;
         read_row(heap, self.bytes, kind, bounds).map_err(|e| on_line(e, number))
     }

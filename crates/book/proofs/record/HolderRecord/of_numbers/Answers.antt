@@ -1,8 +1,7 @@
-use Rattle.std.proofs.Common.{◌≡◌, ℕ, get_or, ℤ, pos, rules, arith}
+use Rattle.std.proofs.Common.{◌≡◌, ℕ, get_or, pos, rules, arith}
 use Rattle.std.proofs.lemmas.Grind.{common_steps}
-use Rattle.std.proofs.lemmas.Int.{to_z-of_z}
 use mir.Syntax.{w32, w64}
-use mir.Val.{SFits, to_z, of_z}
+use mir.Val.{to_z, of_z}
 use Rattle.book.proofs.RecordValues.{holder_row}
 use Rattle.book.proofs.record.HolderRecord.of_numbers.Goals as goal
 
