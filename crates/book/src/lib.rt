@@ -7,7 +7,7 @@ mod draft;
 pub mod fault;
 pub mod laws;
 pub mod limits;
-mod lines;
+pub mod lines;
 pub mod numbers;
 mod record;
 pub mod records;
