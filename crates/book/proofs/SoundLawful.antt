@@ -183,10 +183,6 @@ agree_from g h c a =
 
 -- ---- both ways
 
--- rows by their number, from 1
-row_of_book : (b : Contents) (r : ℕ) → holder b (suc r) ≡ row_at b.holders r
-row_of_book b r = refl
-
 pub sound_from : (b : Contents) → lawful b ≡ true → Sound b
 sound_from b h =
     let k = parts_of b h in

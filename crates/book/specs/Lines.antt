@@ -1,5 +1,5 @@
 -- The lines of a file, one step at a time.
-use Rattle.std.specs.Prelude.{◌≡◌, ℕ, ◌+◌, ◌<◌, List, length, take, drop, Some, None, Option, not, ◌==◌}
+use Rattle.std.specs.Prelude.{◌≡◌, ◌+◌, ◌<◌, length, take, drop, Some, None, Option, not, ◌==◌}
 use Rattle.text.specs.Parts.{stop}
 use Rattle.book.specs.declared.lines.Line.{Line}
 use Rattle.book.specs.declared.lines.Lines.{Lines}

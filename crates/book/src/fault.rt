@@ -25,6 +25,7 @@ pub enum Cause {
 }
 
 // A refused file: the cause, and where: the line and the field, from 1, or 0 where the cause has no such place.
+// The 0 stays a number: it is what is told, and an Option would be turned back into it wherever a refusal is told.
 #[derive(Clone, Copy, Debug, PartialEq, Eq)]
 pub struct Refusal {
     pub cause: Cause,

@@ -6,6 +6,7 @@ use crate::fault::{Cause, ReadFault, Refusal, WriteFault};
 use std::error::Error;
 use std::fmt;
 
+// A match, and not the variants' own values: an edit that gives two causes one number has to be refused by a proof.
 impl Cause {
     pub fn number(&self) -> u8
         ensures told_by_its_number { result ≡ number_of self.now }
@@ -38,7 +39,13 @@ impl fmt::Display for Refusal {
     ghost output = { λ r. Some (told r) };
 
     fn fmt<W: fmt::Write>(&self, f: &mut fmt::Formatter<W>) -> fmt::Result {
-        write!(f, "refused,{},{},{}", self.cause.number(), self.line, self.field)
+        write!(
+            f,
+            "refused,{},{},{}",
+            self.cause.number(),
+            self.line,
+            self.field
+        )
     }
 }
 

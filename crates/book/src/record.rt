@@ -10,7 +10,8 @@ use crate::records::{Asset, Holder, Terms};
 use text::page::Page;
 use text::row::Bound;
 
-// The range of each number of a line, as the file's format has it.
+// The range of each number of a line, as the file's format has it. A constant's value calls no function, so the
+// limits are widened by `as`.
 const TERMS_BOUNDS: [Bound; 2] = [
     Bound {
         low: 1,
@@ -80,6 +81,7 @@ pub trait Record: Sized {
 
     // the numbers of the line, and the record of numbers
     ghost numbers: { Self → List ℤ };
+
     ghost from: { List ℤ → Self };
 
     fn kind() -> &'static [u8]
@@ -88,7 +90,8 @@ pub trait Record: Sized {
     fn bounds() -> &'static [Bound]
         ensures of_each_number { result.now ≡ bounds };
 
-    // The record of a line's numbers.
+    // The record of a line's numbers. Each is within its bound, so the casts are proved to lose nothing; a `try_from`
+    // would give up where nothing can fail.
     fn of_numbers(values: &[i64]) -> Self
         requires { Good bounds values.now }
         ensures field_by_field { result ≡ from values.now };

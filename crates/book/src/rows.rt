@@ -54,6 +54,7 @@ pub(crate) struct Rows<'a> {
     ghost few: { length holders.now ≤ most_holders },
 }
 
+// Bought and sold differ in one method; a closure for it would need a contract longer than the chain.
 impl Rows<'_> {
     // Contracts bought.
     pub(crate) fn bought(&self) -> u64

@@ -12,6 +12,10 @@ use std::fmt;
 use std::io::Read;
 use text::page::MOST_BYTES;
 
+// How much of standard input is read: one byte past what a file may have tells that there are too many. Rust has no
+// `From` between these two types.
+const MOST_READ: u64 = MOST_BYTES as u64 + 1;
+
 // An accepted file, as it is told: its book, and how many bytes it has.
 #[derive(Clone, Copy)]
 pub struct Accepted<'a> {
@@ -45,12 +49,10 @@ pub fn read_or_print(rt: &HostRuntime, book: &mut Book, file: &[u8]) -> anyhow::
     }
 }
 
-// The bytes of standard input, but no more than one past what a file may have, which tells that there are too many.
+// The bytes of standard input.
 fn input(rt: &HostRuntime) -> anyhow::Result<Vec<u8>> {
     let mut bytes = Vec::new(rt.alloc());
-    rt.stdin()
-        .take(MOST_BYTES as u64 + 1)
-        .read_to_end(&mut bytes)?;
+    rt.stdin().take(MOST_READ).read_to_end(&mut bytes)?;
     Ok(bytes)
 }
 

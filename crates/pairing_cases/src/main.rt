@@ -51,9 +51,7 @@ fn list(rt: &HostRuntime, book: &Book, lots: &[u8]) -> anyhow::Result<()> {
     for lot in lots.split(|b| *b == b' ') {
         note(&mut records, lot);
     }
-    if hand_out(book, &mut records).is_err() {
-        return Err(anyhow!("there are too few records"));
-    }
+    hand_out(book, &mut records).map_err(|_| anyhow!("there are too few records"))?;
     let Ok(lines) = pair(book, &records, &mut table) else {
         return Err(anyhow!("the table of lines is too small"));
     };

@@ -36,6 +36,7 @@ impl<'a> Iterator for Lines<'a> {
             number: self.number,
             ended: !more.is_empty(),
         };
+        // past the line end, if there is one
         self.rest = more.get(1..).unwrap_or(more);
         self.number += 1;
         Some(line)
