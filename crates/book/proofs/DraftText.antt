@@ -1,6 +1,7 @@
 -- What a draft keeps from line to line: it can be part of a book, and the lines read so far are its text.
 use Rattle.std.proofs.Common.{◌≡◌, ℕ, suc, ◌<◌, ◌≤◌, true, false, cond, ◌&&◌, eqb, ltb, leb, List, [], ◌∷◌, ◌++◌, length, Ok, Err, codes, sym, refl, ap, ◌∙◌, subst, ⊎_elim, append_assoc, arith, length-append, ltb-true, eq-eqb, eqb-true, leb-false}
-use Rattle.std.specs.List.{flat_map}
+use Rattle.std.specs.List.{flat_map, list_all}
+use Rattle.std.proofs.lemmas.List.Folds.{list_all-append}
 use Rattle.std.specs.Str.{bytes_eq}
 use Rattle.std.proofs.lemmas.Slice.Eq.{bytes_eq-Decides}
 use Rattle.std.proofs.lemmas.List.{append-nil, nil_from_length, flat_map_more}
@@ -15,16 +16,15 @@ use Rattle.book.specs.declared.fault.Cause.TheVariants as cause
 use Rattle.book.specs.Limits.{most_assets, most_holders}
 use Rattle.book.specs.Books.{Contents, empty}
 use Rattle.book.specs.Format.{heading, terms_bounds, asset_bounds, holder_bounds, terms_from, asset_from, holder_from, terms_values, asset_values, holder_values, terms_line, asset_line, holder_line, text}
-use Rattle.book.specs.Lawful.{all, terms_ok, asset_ok, holder_ok, ascends, agrees, rows}
+use Rattle.book.specs.Lawful.{terms_ok, asset_ok, holder_ok, ascends, agrees, rows}
 use Rattle.book.specs.Reading.{Draft, drafted, refuse, next, next_by, heading_read, terms_read, asset_read, holder_read, row_added, row_read, overfull, asset_next, holder_next, is_kind, with_terms, with_asset, with_holder, read_on}
-use Rattle.book.proofs.AllOf.{all_push}
 use Rattle.book.proofs.Inversions.{passed, spared, on_row_ok, onward_ok, never, same_ok}
-use Rattle.book.proofs.RecordValues.{terms_row, asset_row, holder_row}
+use Rattle.book.proofs.RecordValues.{terms_back, asset_back, holder_row}
 
 -- what terms, assets and rows of a draft have, as far as they go
 pub record Partial (b : Contents) : Type 0 where
   pub terms : terms_ok b.terms ≡ true
-  pub assets : all asset_ok b.assets ≡ true
+  pub assets : list_all asset_ok b.assets ≡ true
   pub few_assets : length b.assets ≤ most_assets
   pub rows : rows [] b.holders ≡ true
   pub few_holders : length b.holders ≤ most_holders
@@ -76,7 +76,7 @@ terms_grow : (l : ℕ) (b : Contents) (s : List ℕ) (d : Draft) → b ≡ empty
 terms_grow l b s d e h =
     let p = on_row_ok l (row (codes "terms") terms_bounds (fields s)) (λ zs. Ok (drafted awaits.Rows (with_terms b (terms_from zs)))) d h in
     let good = accepted_good (codes "terms") terms_bounds s p.0 p.1 in
-    let back = (terms_row p.0 good).back in
+    let back = terms_back p.0 good in
     let new : Contents = with_terms empty (terms_from p.0) in
     let is : drafted awaits.Rows new ≡ d = ap (λ x. drafted awaits.Rows (with_terms x (terms_from p.0))) (sym e) ∙ same_ok (drafted awaits.Rows (with_terms b (terms_from p.0))) d p.2 in
     let written : line (codes "terms") (terms_values (terms_from p.0)) ≡ s ++ 10 ∷ [] = ap (line (codes "terms")) back ∙ sym (accepted_is_text (codes "terms") terms_bounds s p.0 p.1) in
@@ -100,14 +100,14 @@ asset_grows l b s d k a h =
     let p = on_row_ok l (row (codes "asset") asset_bounds (fields s)) (λ zs. Ok (drafted awaits.Rows (with_asset b (asset_from zs)))) d h in
     let good = accepted_good (codes "asset") asset_bounds s p.0 p.1 in
     let x = asset_from p.0 in
-    let back = (asset_row p.0 good).back in
+    let back = asset_back p.0 good in
     let is : drafted awaits.Rows (with_asset b x) ≡ d = same_ok (drafted awaits.Rows (with_asset b x)) d p.2 in
     let written : asset_line x ≡ s ++ 10 ∷ [] = ap (line (codes "asset")) back ∙ sym (accepted_is_text (codes "asset") asset_bounds s p.0 p.1) in
     let ok : asset_ok x ≡ true = eq-eqb (outside 2 asset_bounds (asset_values x)) 0 (ap (outside 2 asset_bounds) back ∙ good.1) in
     subst (λ y. Grown awaits.Rows b s y) is (record {
       keeps = record {
         terms = k.terms;
-        assets = all_push asset_ok b.assets x k.assets ok;
+        assets = list_all-append asset_ok b.assets (x ∷ []) ∙ and_from (list_all asset_ok b.assets) _ k.assets (and_from (asset_ok x) true ok refl);
         few_assets = omega (arith, length-append b.assets (x ∷ []));
         rows = k.rows;
         few_holders = k.few_holders;

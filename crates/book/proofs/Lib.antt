@@ -1,4 +1,3 @@
-pub mod AllOf
 pub mod RecordValues
 pub mod ReaderTurns
 pub mod Inversions
@@ -8,8 +7,9 @@ pub mod TextReads
 pub mod SoundLawful
 pub mod TextLength
 pub mod OneFile
-pub mod ReadsEmpty
 pub mod BookKept
 pub mod PageOfBook
 pub mod WriteWays
 pub mod RowOf
+pub mod SumOf
+pub mod RowOnLine

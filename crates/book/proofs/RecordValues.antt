@@ -1,7 +1,7 @@
 -- The numbers of an accepted line: their sizes, and the record that they make, which has them as its numbers.
-use Rattle.std.proofs.Common.{◌≡◌, ℕ, zero, suc, ◌≤◌, true, false, List, [], ◌∷◌, length, get_or, ℤ, pos, negsuc, nat_abs, refl, ap, ◌∙◌, arith, leb-true}
+use Rattle.std.proofs.Common.{◌≡◌, ℕ, zero, suc, ◌≤◌, true, false, List, [], ◌∷◌, get_or, ℤ, pos, negsuc, nat_abs, refl, ap, ◌∙◌, arith, leb-true}
 use Rattle.text.proofs.Ranges.{Within, each}
-use Rattle.text.proofs.RoundTrip.{Good}
+use Rattle.book.specs.Format.{Good}
 use Rattle.book.specs.Limits.{most_position}
 use Rattle.book.specs.Format.{from_to, position_bound, terms_bounds, asset_bounds, holder_bounds, terms_from, asset_from, holder_from, terms_values, asset_values, holder_values}
 
@@ -24,41 +24,26 @@ position_size (negsuc n) h = let q : n ≤ 999999 = leb-true n 999999 h.above in
 
 -- ---- the numbers of a line
 
-pub record TermsRow (zs : List ℤ) : Type 0 where
-  pub multiplier : Counts 1 1000 (get_or zs 0 (pos 0))
-  pub price : Counts 100 100000000 (get_or zs 1 (pos 0))
-  pub back : terms_values (terms_from zs) ≡ zs
-
-pub terms_row : (zs : List ℤ) → Good terms_bounds zs → TermsRow zs
-terms_row [] g = absurd (omega (arith, g.0))
-terms_row (a ∷ []) g = absurd (omega (arith, g.0))
-terms_row (a ∷ b ∷ c ∷ zs) g = absurd (omega (arith, g.0))
-terms_row (a ∷ b ∷ []) g =
+pub terms_back : (zs : List ℤ) → Good terms_bounds zs → terms_values (terms_from zs) ≡ zs
+terms_back [] g = absurd (omega (arith, g.0))
+terms_back (a ∷ []) g = absurd (omega (arith, g.0))
+terms_back (a ∷ b ∷ c ∷ zs) g = absurd (omega (arith, g.0))
+terms_back (a ∷ b ∷ []) g =
     let e = each 2 terms_bounds (a ∷ b ∷ []) (omega arith) g.1 in
-    let m = counts 1 1000 a e.0 in
-    let n = counts 100 100000000 b e.1.0 in
-    record { multiplier = m; price = n; back = ap (λ x. x ∷ pos (nat_abs b) ∷ []) m.is ∙ ap (λ x. a ∷ x ∷ []) n.is }
+    ap (λ x. x ∷ pos (nat_abs b) ∷ []) (counts 1 1000 a e.0).is ∙ ap (λ x. a ∷ x ∷ []) (counts 100 100000000 b e.1.0).is
 
-pub record AssetRow (zs : List ℤ) : Type 0 where
-  pub factor : Counts 100000 2000000 (get_or zs 0 (pos 0))
-  pub accrued : Counts 0 10000000 (get_or zs 1 (pos 0))
-  pub market : Counts 1 210000000 (get_or zs 2 (pos 0))
-  pub back : asset_values (asset_from zs) ≡ zs
-
-pub asset_row : (zs : List ℤ) → Good asset_bounds zs → AssetRow zs
-asset_row [] g = absurd (omega (arith, g.0))
-asset_row (a ∷ []) g = absurd (omega (arith, g.0))
-asset_row (a ∷ b ∷ []) g = absurd (omega (arith, g.0))
-asset_row (a ∷ b ∷ c ∷ d ∷ zs) g = absurd (omega (arith, g.0))
-asset_row (a ∷ b ∷ c ∷ []) g =
+pub asset_back : (zs : List ℤ) → Good asset_bounds zs → asset_values (asset_from zs) ≡ zs
+asset_back [] g = absurd (omega (arith, g.0))
+asset_back (a ∷ []) g = absurd (omega (arith, g.0))
+asset_back (a ∷ b ∷ []) g = absurd (omega (arith, g.0))
+asset_back (a ∷ b ∷ c ∷ d ∷ zs) g = absurd (omega (arith, g.0))
+asset_back (a ∷ b ∷ c ∷ []) g =
     let e = each 2 asset_bounds (a ∷ b ∷ c ∷ []) (omega arith) g.1 in
-    let x = counts 100000 2000000 a e.0 in
-    let y = counts 0 10000000 b e.1.0 in
-    let z = counts 1 210000000 c e.1.1.0 in
-    record { factor = x; accrued = y; market = z; back = ap (λ t. t ∷ pos (nat_abs b) ∷ pos (nat_abs c) ∷ []) x.is ∙ ap (λ t. a ∷ t ∷ pos (nat_abs c) ∷ []) y.is ∙ ap (λ t. a ∷ b ∷ t ∷ []) z.is }
+    ap (λ t. t ∷ pos (nat_abs b) ∷ pos (nat_abs c) ∷ []) (counts 100000 2000000 a e.0).is
+    ∙ ap (λ t. a ∷ t ∷ pos (nat_abs c) ∷ []) (counts 0 10000000 b e.1.0).is
+    ∙ ap (λ t. a ∷ b ∷ t ∷ []) (counts 1 210000000 c e.1.1.0).is
 
 pub record HolderRow (zs : List ℤ) : Type 0 where
-  pub five : length zs ≡ 5
   pub member : Counts 1 999 (get_or zs 0 (pos 0))
   pub number : Counts 1 999999 (get_or zs 1 (pos 0))
   pub clearing : Counts 1 999 (get_or zs 2 (pos 0))
@@ -80,7 +65,6 @@ holder_row (a ∷ b ∷ c ∷ d ∷ e ∷ []) g =
     let w = counts 1 999 c each_in.1.1.0 in
     let x = counts 1 64 d each_in.1.1.1.0 in
     record {
-      five = g.0;
       member = u;
       number = v;
       clearing = w;

@@ -1,6 +1,16 @@
--- The row of a member and number: from a place on, and that it is the only one.
-use Rattle.std.proofs.Common.{◌≡◌, ℕ, zero, suc, ◌+◌, ◌<◌, ◌≤◌, Bool, true, false, ◌&&◌, eqb, ltb, List, [], ◌∷◌, length, get_or, drop, Some, None, Option, sym, refl, ap, ◌∙◌, ⊎_elim, arith, ltb-true, eq-eqb, eqb-true}
-use Rattle.std.proofs.lemmas.List.{at_drop_more, at_drop_all}
+-- The row of a member and number: the one that a search by them finds, and that it is the only one.
+use Rattle.std.proofs.Common.{◌≡◌, ℕ, zero, suc, ◌+◌, ◌<◌, ◌≤◌, Bool, true, false, ◌&&◌, eqb, ltb, List, [], ◌∷◌, length, get_or, Some, None, Option, Ok, Err, Result, sym, refl, ap, ◌∙◌, subst, ⊎_elim, arith, ltb-true, eq-eqb, eqb-true}
+use Rattle.std.specs.Ordering.{nat_cmp, ordering_then, is_lt}
+use Rattle.std.specs.Result.{result_ok}
+use Rattle.std.specs.Option.{MatchOption, IsSomeAnd}
+use Rattle.std.proofs.lemmas.List.{get_or_default}
+use Rattle.std.specs.Cmp.{IsTotalOrder}
+use Rattle.std.specs.List.Sorted.{IsBinarySearchResult, IsSearchInRange, IsSortedBy}
+use Rattle.std.specs.declared.cmp.Ordering.{Ordering}
+use Rattle.std.specs.declared.cmp.Ordering.TheVariants.{Less, Equal, Greater}
+use Rattle.std.proofs.lemmas.Cmp.{then_total, on_total, nat_cmp_total}
+use Rattle.std.proofs.lemmas.List.Sorted.{searchable_from_sorted}
+use Rattle.std.proofs.lemmas.Bool.Decides.{nat_tests}
 use Rattle.std.proofs.lemmas.Bool.{cond-true, cond-false, and_parts, and_from, cases_Bool, cases_lt}
 use Rattle.book.specs.declared.records.Holder.{Holder}
 use Rattle.book.specs.declared.book.Book.{Book}
@@ -12,30 +22,29 @@ use Rattle.book.proofs.BookKept.{book_sound}
 abbrev is : ℕ → ℕ → Holder → Bool
 is m n h = eqb h.member m && eqb h.number n
 
--- ---- from a place on
+-- ---- by their order
 
-abbrev pub past : ℕ → Option ℕ → Option ℕ
-past i None = None
-past i (Some row) = Some (i + row)
+abbrev pub key : Holder → ℕ × ℕ
+key h = (h.member, h.number)
 
-past_next : (i : ℕ) (o : Option ℕ) → past i (next_row o) ≡ past (i + 1) o
-past_next i None = refl
-past_next i (Some row) = ap Some (omega arith)
+abbrev pub by_key : ℕ × ℕ → ℕ × ℕ → Ordering
+by_key x y = ordering_then (nat_cmp x.0 y.0) (nat_cmp x.1 y.1)
 
-pub past_0 : (o : Option ℕ) → o ≡ past 0 o
-past_0 None = refl
-past_0 (Some row) = ap Some (omega arith)
+by_key_total : IsTotalOrder by_key
+by_key_total = then_total (on_total (λ (t : ℕ × ℕ). t.0) nat_cmp_total) (on_total (λ (t : ℕ × ℕ). t.1) nat_cmp_total)
 
-pub found_here : (hs : List Holder) (m n i : ℕ) → i < length hs → is m n (get_or hs i nobody) ≡ true → past i (row_among (drop i hs) m n) ≡ Some (i + 1)
-found_here hs m n i h e = ap (past i) (at_drop_more (λ l. row_among l m n) hs i nobody h ∙ cond-true (is m n (get_or hs i nobody)) (Some 1) (next_row (row_among (drop (i + 1) hs) m n)) e)
+-- a row that stands before another is not above it
+not_above : (g h : Holder) → stands_before g h ≡ true → is_lt (by_key (key h) (key g)) ≡ false
+not_above g h b = grind (arith, nat_tests)
 
-pub found_later : (hs : List Holder) (m n i : ℕ) → i < length hs → is m n (get_or hs i nobody) ≡ false → past i (row_among (drop i hs) m n) ≡ past (i + 1) (row_among (drop (i + 1) hs) m n)
-found_later hs m n i h e =
-    ap (past i) (at_drop_more (λ l. row_among l m n) hs i nobody h ∙ cond-false (is m n (get_or hs i nobody)) (Some 1) (next_row (row_among (drop (i + 1) hs) m n)) e)
-    ∙ past_next i (row_among (drop (i + 1) hs) m n)
+is_by_key : (m n : ℕ) (h : Holder) → by_key (key h) (m, n) ≡ Equal → is m n h ≡ true
+is_by_key m n h e = grind (arith, nat_tests)
 
-pub found_none : (hs : List Holder) (m n i : ℕ) → length hs ≤ i → past i (row_among (drop i hs) m n) ≡ None
-found_none hs m n i h = ap (past i) (at_drop_all (λ l. row_among l m n) hs i h)
+below_by_key : (m n : ℕ) (h : Holder) → by_key (key h) (m, n) ≡ Less → is m n h ≡ false
+below_by_key m n h e = grind (arith, nat_tests)
+
+above_by_key : (m n : ℕ) (h : Holder) → by_key (key h) (m, n) ≡ Greater → is m n h ≡ false
+above_by_key m n h e = grind (arith, nat_tests)
 
 -- ---- the one row
 
@@ -101,3 +110,66 @@ one_row b m n None e = λ row h. let p = has_at (contents b) m n row h in row_no
 one_row b m n (Some row) e =
     let has = the_row b m n row (sym e) in
     (has, λ other h. only (contents b) m n row other (book_sound b (omega (arith, has.within.0, has.within.1))) has h)
+
+-- ---- what a search by member and number finds
+
+here : (m n : ℕ) (x : Holder) (xs : List Holder) → is m n x ≡ true → row_among (x ∷ xs) m n ≡ Some 1
+here m n x xs e = cond-true (is m n x) (Some 1) (next_row (row_among xs m n)) e
+
+later : (m n : ℕ) (x : Holder) (xs : List Holder) → is m n x ≡ false → row_among (x ∷ xs) m n ≡ next_row (row_among xs m n)
+later m n x xs e = cond-false (is m n x) (Some 1) (next_row (row_among xs m n)) e
+
+first_row : (m n : ℕ) (hs : List Holder) (i : ℕ) → i < length hs → ((k : ℕ) → k < i → is m n (get_or hs k nobody) ≡ false) → is m n (get_or hs i nobody) ≡ true → row_among hs m n ≡ Some (i + 1)
+first_row m n [] i l none e = absurd (omega arith)
+first_row m n (x ∷ xs) zero l none e = here m n x xs e
+first_row m n (x ∷ xs) (suc i) l none e = later m n x xs (none 0 (omega arith)) ∙ ap next_row (first_row m n xs i (omega arith) (λ k h. none (suc k) (omega arith)) e) ∙ ap Some (omega arith)
+
+no_row : (m n : ℕ) (hs : List Holder) → ((k : ℕ) → k < length hs → is m n (get_or hs k nobody) ≡ false) → row_among hs m n ≡ None
+no_row m n [] none = refl
+no_row m n (x ∷ xs) none = later m n x xs (none 0 (omega arith)) ∙ ap next_row (no_row m n xs (λ k h. none (suc k) (omega arith)))
+
+-- a row before one of these names has others
+others_before : (m n : ℕ) (g h : Holder) → stands_before g h ≡ true → is m n h ≡ true → is m n g ≡ false
+others_before m n g h b e = grind (arith, nat_tests)
+
+abbrev Ascending : List Holder → Type 0
+Ascending hs = (i j : ℕ) → i < j → j < length hs → stands_before (get_or hs i nobody) (get_or hs j nobody) ≡ true
+
+abbrev row_found : Result ℕ ℕ → Option ℕ
+row_found (Ok i) = Some (i + 1)
+row_found (Err i) = None
+
+sorted : (hs : List Holder) → Ascending hs → IsSortedBy (λ a b. is_lt (by_key (key a) (key b))) hs
+sorted hs up k d l n =
+    let low = get_or_default hs k d nobody (omega arith) in
+    let high = get_or_default hs (k + 1) d nobody n in
+    ap (λ x. is_lt (by_key (key x) (key (get_or hs k d)))) high ∙ ap (λ x. is_lt (by_key (key (get_or hs (k + 1) nobody)) (key x))) low
+    ∙ not_above (get_or hs k nobody) (get_or hs (k + 1) nobody) (up k (k + 1) (omega arith) n)
+
+found : (m n : ℕ) (hs : List Holder) (r : Result ℕ ℕ) → Ascending hs → IsSearchInRange r (length hs) → IsBinarySearchResult (λ h. by_key (key h) (m, n)) hs r → row_found r ≡ row_among hs m n
+found m n hs (Ok i) up l at = let e : is m n (get_or hs i nobody) ≡ true = is_by_key m n (get_or hs i nobody) (at nobody) in sym (first_row m n hs i l (λ k h. others_before m n (get_or hs k nobody) (get_or hs i nobody) (up k i h l) e) e)
+found m n hs (Err i) up l at =
+    let p = at (searchable_from_sorted by_key_total key hs (m, n) (sorted hs up)) in
+    sym (no_row m n hs (λ k h. ⊎_elim (λ (b : k < i). below_by_key m n (get_or hs k nobody) (p.0 k nobody (omega arith) b)) (λ (b : i ≤ k). above_by_key m n (get_or hs k nobody) (p.1 k nobody b h)) (cases_lt k i)))
+
+none_found : (r : Result ℕ ℕ) → None ≡ result_ok r → None ≡ row_found r
+none_found (Ok i) e = let q : ◌≡◌ {A = ℕ} 0 1 = cc in absurd (omega arith)
+none_found (Err i) e = refl
+
+some_found : (r : Result ℕ ℕ) (x : ℕ) → Some x ≡ result_ok r → Some (x + 1) ≡ row_found r
+some_found (Ok i) x e = let q : x ≡ i = cc in ap (λ k. Some (k + 1)) q
+some_found (Err i) x e = let q : ◌≡◌ {A = ℕ} 0 1 = cc in absurd (omega arith)
+
+-- the place that was found, as a row
+as_row : (r : Result ℕ ℕ) (o q : Option ℕ) (As : ℕ → ℕ → Type 0) → ((x y : ℕ) → As x y → y ≡ x + 1) → o ≡ result_ok r → MatchOption o (q ≡ None) (λ x. IsSomeAnd q (As x)) → q ≡ row_found r
+as_row r None q As one e m = m ∙ none_found r e
+as_row r (Some x) None As one e m = absurd m
+as_row r (Some x) (Some y) As one e m = ap Some (one x y m) ∙ some_found r x e
+
+rows_ascend : (b : Book) → Ascending (contents b).holders
+rows_ascend b i j l n = (book_sound b (omega arith)).ascending (suc i) (suc j) (omega arith) (omega arith) (omega arith)
+
+-- hs is the slice that was searched, and q the row that comes of the answer r
+pub row_searched : (b : Book) (m n : ℕ) (hs : List Holder) (r : Result ℕ ℕ) (o q : Option ℕ) (As : ℕ → ℕ → Type 0) → hs ≡ (contents b).holders → IsSearchInRange r (length hs) → IsBinarySearchResult (λ h. by_key (key h) (m, n)) hs r → ((x y : ℕ) → As x y → y ≡ x + 1) → o ≡ result_ok r → MatchOption o (q ≡ None) (λ x. IsSomeAnd q (As x)) → q ≡ row_of (contents b) m n
+row_searched b m n hs r o q As e l at one k c =
+    as_row r o q As one k c ∙ found m n hs r (subst Ascending (sym e) (rows_ascend b)) l at ∙ ap (λ xs. row_among xs m n) e

@@ -1,6 +1,7 @@
 -- The test of a lawful book, and what every book that exists has: each gives the other.
 use Rattle.std.proofs.Common.{◌≡◌, ℕ, zero, suc, ◌+◌, ◌-◌, ◌<◌, ◌≤◌, Bool, true, not, ◌&&◌, ◌||◌, eqb, ltb, leb, List, [], ◌∷◌, ◌++◌, length, get_or, ℤ, pos, negsuc, nat_abs, sym, refl, ap, ◌∙◌, subst, ⊎_elim, append_assoc, arith, length-append, ltb-true, lt-ltb, eq-eqb, ne_eqb, eqb-true, le-leb, leb-true}
-use Rattle.std.specs.List.{AllByRecursion}
+use Rattle.std.specs.List.{AllByRecursion, list_all}
+use Rattle.std.proofs.lemmas.List.Recursion.{and_at, and_from_places}
 use Rattle.std.proofs.lemmas.List.{get_or_append_left, get_or-append_right}
 use Rattle.std.proofs.lemmas.Bool.{and_parts, and_from, cond-true, cases_eq, cases_lt}
 use Rattle.std.proofs.lemmas.Bool.Decides.{nat_tests}
@@ -14,7 +15,7 @@ use Rattle.book.specs.declared.records.Holder.{Holder}
 use Rattle.book.specs.Limits.{most_assets, most_holders, most_bought, most_position}
 use Rattle.book.specs.Books.{Contents, nobody, holder, In, AssetInRange, HolderInRange, stands_before, bought_by, sold_by, Sound}
 use Rattle.book.specs.Format.{from_to, position_bound, terms_bounds, asset_bounds, holder_bounds, terms_values, asset_values, holder_values}
-use Rattle.book.specs.Lawful.{all, terms_ok, asset_ok, holder_ok, ascends, agree, agrees, rows, headed, lawful}
+use Rattle.book.specs.Lawful.{terms_ok, asset_ok, holder_ok, ascends, agree, agrees, rows, headed, lawful}
 use Rattle.book.proofs.RecordValues.{counts, position_size}
 use Rattle.book.proofs.TextReads.{parts_of}
 
@@ -76,13 +77,13 @@ holder_in x r =
     (inside_all 5 (from_to 1 64) (position_bound ∷ []) (pos x.agent) (x.position ∷ []) (in_bound 1 64 x.agent (omega arith) r.agent)
     (inside_all 6 position_bound [] x.position [] (in_position x.position r.volume) refl)))))
 
-all_to : {X : Type 0} (p : X → Bool) (P : X → Type 0) → ((x : X) → p x ≡ true → P x) → (xs : List X) → all p xs ≡ true → AllByRecursion P xs
+all_to : {X : Type 0} (p : X → Bool) (P : X → Type 0) → ((x : X) → p x ≡ true → P x) → (xs : List X) → list_all p xs ≡ true → AllByRecursion P xs
 all_to p P f [] h = tt
-all_to p P f (x ∷ xs) h = let q = and_parts (p x) (all p xs) h in (f x q.0, all_to p P f xs q.1)
+all_to p P f (x ∷ xs) h = let q = and_parts (p x) (list_all p xs) h in (f x q.0, all_to p P f xs q.1)
 
-all_from : {X : Type 0} (p : X → Bool) (P : X → Type 0) → ((x : X) → P x → p x ≡ true) → (xs : List X) → AllByRecursion P xs → all p xs ≡ true
+all_from : {X : Type 0} (p : X → Bool) (P : X → Type 0) → ((x : X) → P x → p x ≡ true) → (xs : List X) → AllByRecursion P xs → list_all p xs ≡ true
 all_from p P f [] h = refl
-all_from p P f (x ∷ xs) h = and_from (p x) (all p xs) (f x h.0) (all_from p P f xs h.1)
+all_from p P f (x ∷ xs) h = and_from (p x) (list_all p xs) (f x h.0) (all_from p P f xs h.1)
 
 -- ---- rows: each pair of them
 
@@ -119,14 +120,11 @@ one_of P n same up down (suc r) (suc s) i j =
     (cases_lt s r))
     (cases_lt r s)
 
-all_at : {X : Type 0} (p : X → Bool) (xs : List X) (i : ℕ) (d : X) → all p xs ≡ true → i < length xs → p (get_or xs i d) ≡ true
-all_at p [] i d h n = absurd (omega arith)
-all_at p (x ∷ xs) zero d h n = (and_parts (p x) (all p xs) h).0
-all_at p (x ∷ xs) (suc i) d h n = all_at p xs i d (and_parts (p x) (all p xs) h).1 (omega arith)
+all_at : {X : Type 0} (p : X → Bool) (xs : List X) (i : ℕ) (d : X) → list_all p xs ≡ true → i < length xs → p (get_or xs i d) ≡ true
+all_at p xs i d h n = and_at (list_all p) p refl (λ _ _. refl) xs i d n h
 
-all_by : {X : Type 0} (p : X → Bool) (xs : List X) (d : X) → ((i : ℕ) → i < length xs → p (get_or xs i d) ≡ true) → all p xs ≡ true
-all_by p [] d f = refl
-all_by p (x ∷ xs) d f = and_from (p x) (all p xs) (f 0 (omega arith)) (all_by p xs d (λ i n. f (suc i) (omega arith)))
+all_by : {X : Type 0} (p : X → Bool) (xs : List X) (d : X) → ((i : ℕ) → i < length xs → p (get_or xs i d) ≡ true) → list_all p xs ≡ true
+all_by p xs d f = and_from_places (list_all p) p refl (λ _ _. refl) xs d f
 
 abbrev row_at : List Holder → ℕ → Holder
 row_at hs i = get_or hs i nobody
@@ -152,16 +150,16 @@ rows_ordered gs (h ∷ hs) r i j l n k =
     (rows_ordered (gs ++ h ∷ []) hs p.1 i j l (omega (arith, ap length (append_assoc gs (h ∷ []) hs))) (above j (length gs) (length (gs ++ h ∷ [])) k e (length-append gs (h ∷ [])))))
     (cases_eq j (length gs))
 
-rows_ok : (gs hs : List Holder) → rows gs hs ≡ true → all holder_ok hs ≡ true
+rows_ok : (gs hs : List Holder) → rows gs hs ≡ true → list_all holder_ok hs ≡ true
 rows_ok gs [] r = refl
 rows_ok gs (h ∷ hs) r =
     let p = and_parts (holder_ok h && (ascends gs h && agrees gs h)) (rows (gs ++ h ∷ []) hs) r in
-    and_from (holder_ok h) (all holder_ok hs) (and_parts (holder_ok h) (ascends gs h && agrees gs h) p.0).0 (rows_ok (gs ++ h ∷ []) hs p.1)
+    and_from (holder_ok h) (list_all holder_ok hs) (and_parts (holder_ok h) (ascends gs h && agrees gs h) p.0).0 (rows_ok (gs ++ h ∷ []) hs p.1)
 
-rows_from : (gs hs : List Holder) → all holder_ok hs ≡ true → ((i j : ℕ) → i < j → j < length (gs ++ hs) → Ordered (gs ++ hs) i j) → rows gs hs ≡ true
+rows_from : (gs hs : List Holder) → list_all holder_ok hs ≡ true → ((i j : ℕ) → i < j → j < length (gs ++ hs) → Ordered (gs ++ hs) i j) → rows gs hs ≡ true
 rows_from gs [] a f = refl
 rows_from gs (h ∷ hs) a f =
-    let p = and_parts (holder_ok h) (all holder_ok hs) a in
+    let p = and_parts (holder_ok h) (list_all holder_ok hs) a in
     let n : length gs < length (gs ++ h ∷ hs) = omega (arith, length-append gs (h ∷ hs)) in
     let at : row_at (gs ++ h ∷ hs) (length gs) ≡ h = get_or-append_right gs (h ∷ hs) (length gs) (length gs) nobody refl (omega arith) ∙ ap (λ m. get_or (h ∷ hs) m nobody) (zero_from (length gs) (length gs) refl) in
     let before : (i : ℕ) → i < length gs → Ordered (gs ++ h ∷ hs) i (length gs) = λ i k. f i (length gs) k n in
@@ -184,10 +182,6 @@ agree_from g h c a =
     (implied g.member h.member g.clearing h.clearing c) (implied g.clearing h.clearing g.agent h.agent a)
 
 -- ---- both ways
-
--- rows by their number, from 1
-row_of_book : (b : Contents) (r : ℕ) → holder b (suc r) ≡ row_at b.holders r
-row_of_book b r = refl
 
 pub sound_from : (b : Contents) → lawful b ≡ true → Sound b
 sound_from b h =

@@ -1,7 +1,7 @@
 -- The text of a lawful book is read back, line by line.
 use Rattle.std.proofs.Common.{◌≡◌, ℕ, suc, ◌+◌, ◌<◌, ◌≤◌, true, false, cond, ◌&&◌, eqb, ltb, leb, List, [], ◌∷◌, ◌++◌, length, take, Ok, Err, codes, sym, refl, ap, ◌∙◌, append_assoc, arith, length-append, ltb-true, le-ltb, lt-ltb, eqb-true, leb-true}
 use borrow.Author.Tests.{lt-leb}
-use Rattle.std.specs.List.{flat_map}
+use Rattle.std.specs.List.{flat_map, list_all}
 use Rattle.std.specs.Str.{bytes_eq}
 use Rattle.std.proofs.lemmas.List.{append-nil}
 use Rattle.std.proofs.lemmas.Bool.{and_parts, cond-true, cond-false, and_left, and_right}
@@ -18,7 +18,7 @@ use Rattle.book.specs.declared.awaits.Awaits.TheVariants as awaits
 use Rattle.book.specs.Limits.{most_assets, most_holders}
 use Rattle.book.specs.Books.{Contents, empty}
 use Rattle.book.specs.Format.{heading, terms_bounds, asset_bounds, holder_bounds, terms_from, asset_from, holder_from, terms_values, asset_values, holder_values, terms_line, asset_line, holder_line, text}
-use Rattle.book.specs.Lawful.{all, terms_ok, asset_ok, holder_ok, ascends, agrees, rows, headed, complete, lawful}
+use Rattle.book.specs.Lawful.{terms_ok, asset_ok, holder_ok, ascends, agrees, rows, headed, complete, lawful}
 use Rattle.book.specs.Reading.{Draft, drafted, refuse, next, on_row, asset_read, holder_read, row_added, row_read, overfull, asset_next, holder_next, is_kind, with_asset, onward, read_on, finished, start, reading}
 use Rattle.book.proofs.ReaderTurns.{read_line}
 
@@ -93,11 +93,11 @@ holder_next_reads l t xs hs x some n f =
 
 -- ---- all lines
 
-assets_read : (l : ℕ) (t : Terms) (xs more : List Asset) (rest : List ℕ) → all asset_ok more ≡ true → length xs + length more ≤ most_assets →
+assets_read : (l : ℕ) (t : Terms) (xs more : List Asset) (rest : List ℕ) → list_all asset_ok more ≡ true → length xs + length more ≤ most_assets →
     (m : ℕ) × (read_on l (drafted awaits.Rows (record { terms = t; assets = xs; holders = [] })) (parts 10 (flat_map asset_line more ++ rest)) ≡ read_on m (drafted awaits.Rows (record { terms = t; assets = xs ++ more; holders = [] })) (parts 10 rest))
 assets_read l t xs [] rest a n = (l, ap (λ ys. read_on l (drafted awaits.Rows (record { terms = t; assets = ys; holders = [] })) (parts 10 rest)) (sym (append-nil xs)))
 assets_read l t xs (x ∷ more) rest a n =
-    let p = and_parts (asset_ok x) (all asset_ok more) a in
+    let p = and_parts (asset_ok x) (list_all asset_ok more) a in
     let d : Draft = drafted awaits.Rows (record { terms = t; assets = xs; holders = [] }) in
     let i = assets_read (suc l) t (xs ++ x ∷ []) more rest p.1 (omega (arith, length-append xs (x ∷ []))) in (
       i.0,
@@ -127,7 +127,7 @@ pub record PartsOf (b : Contents) : Type 0 where
   pub terms : terms_ok b.terms ≡ true
   pub some_assets : 0 < length b.assets
   pub few_assets : length b.assets ≤ most_assets
-  pub assets : all asset_ok b.assets ≡ true
+  pub assets : list_all asset_ok b.assets ≡ true
   pub few_holders : length b.holders ≤ most_holders
   pub rows : rows [] b.holders ≡ true
   pub complete : complete b ≡ true
@@ -135,9 +135,9 @@ pub record PartsOf (b : Contents) : Type 0 where
 pub parts_of : (b : Contents) → lawful b ≡ true → PartsOf b
 parts_of b h =
     let p = and_parts (headed b.terms b.assets) (leb (length b.holders) most_holders && (rows [] b.holders && complete b)) h in
-    let q = and_parts (terms_ok b.terms) (ltb 0 (length b.assets) && (leb (length b.assets) most_assets && all asset_ok b.assets)) p.0 in
-    let r = and_parts (ltb 0 (length b.assets)) (leb (length b.assets) most_assets && all asset_ok b.assets) q.1 in
-    let s = and_parts (leb (length b.assets) most_assets) (all asset_ok b.assets) r.1 in
+    let q = and_parts (terms_ok b.terms) (ltb 0 (length b.assets) && (leb (length b.assets) most_assets && list_all asset_ok b.assets)) p.0 in
+    let r = and_parts (ltb 0 (length b.assets)) (leb (length b.assets) most_assets && list_all asset_ok b.assets) q.1 in
+    let s = and_parts (leb (length b.assets) most_assets) (list_all asset_ok b.assets) r.1 in
     let u = and_parts (leb (length b.holders) most_holders) (rows [] b.holders && complete b) p.1 in
     let v = and_parts (rows [] b.holders) (complete b) u.1 in
     record { terms = q.0; some_assets = ltb-true _ _ r.0; few_assets = leb-true _ _ s.0; assets = s.1; few_holders = leb-true _ _ u.0; rows = v.0; complete = v.1 }

@@ -1,10 +1,12 @@
 -- What a book and a draft hold, for the contracts of their methods.
-use Rattle.std.specs.Prelude.{◌≡◌, ℕ, cond, List, length, Ok, Err, vec_items, Result, ◌==◌, nat_lt}
+use Rattle.std.specs.Prelude.{◌≡◌, ℕ, Bool, cond, List, length, ℤ, Ok, Err, vec_items, Result, ◌==◌, nat_lt}
+use Rattle.text.specs.declared.row.RowFault.{RowFault}
 use Rattle.text.specs.declared.row.RowError.{RowError}
 use Rattle.text.specs.declared.row.RowError.TheVariants as row_error
 use Rattle.text.specs.Pages.{placed as put_at_start}
 use Rattle.book.specs.declared.book.Book.{Book}
 use Rattle.book.specs.declared.draft.Draft.{Draft as DraftRead}
+use Rattle.book.specs.declared.fault.Cause.TheVariants.{Form}
 use Rattle.book.specs.declared.fault.Refusal.{Refusal}
 use Rattle.book.specs.declared.fault.ReadFault.{ReadFault}
 use Rattle.book.specs.declared.fault.ReadFault.TheVariants.{Refused, NoMemory}
@@ -12,7 +14,7 @@ use Rattle.book.specs.declared.fault.WriteFault.{WriteFault}
 use Rattle.book.specs.declared.fault.WriteFault.TheVariants.{EmptyBook, SmallBuffer}
 use Rattle.book.specs.Books.{Contents, empty}
 use Rattle.book.specs.Format.{text}
-use Rattle.book.specs.Reading.{Draft, placed}
+use Rattle.book.specs.Reading.{Draft, placed, refuse}
 
 abbrev pub contents : Book → Contents
 contents b = record { terms = b.terms; assets = vec_items b.assets; holders = vec_items b.holders }
@@ -36,6 +38,15 @@ Gives holds (Err NoMemory) s = Unit {0}
 abbrev pub fault_on : ℕ → RowError → ReadFault
 fault_on l (row_error.Refused e) = Refused (placed l e)
 fault_on l row_error.NoMemory = NoMemory
+
+-- the record of a line's numbers, or the line's fault
+abbrev pub record_of : {X : Type 0} → ℕ → Result (List ℤ) RowFault → (List ℤ → X) → Result X Refusal
+record_of l (Ok zs) from = Ok (from zs)
+record_of l (Err e) from = Err (placed l e)
+
+-- a call that passes a line with its end, and refuses the form of another
+abbrev pub Ends : Bool → ℕ → Result (Unit {0}) ReadFault → Type 0
+Ends ended l r = r ≡ cond ended (Ok tt) (Err (Refused (refuse Form l 0)))
 
 -- a book after a reading that was to give what s says: that book, or the empty one with the refusal or with no memory
 abbrev pub Reads : Result (Unit {0}) ReadFault → Result Contents Refusal → Contents → Type 0

@@ -1,8 +1,8 @@
 -- The file of a book: `book,1`, the terms, the assets and the holders, a line each, with their numbers as fields.
-use Rattle.std.specs.Prelude.{ℕ, true, false, List, [], ◌∷◌, ◌++◌, ℤ, pos, negsuc, codes, slice_index_or, unsigned_abs}
+use Rattle.std.specs.Prelude.{◌≡◌, ℕ, true, false, List, [], ◌∷◌, ◌++◌, length, ℤ, pos, negsuc, codes, slice_index_or, unsigned_abs}
 use Rattle.std.specs.List.{flat_map}
 use Rattle.text.specs.declared.row.Bound.{Bound}
-use Rattle.text.specs.Rows.{line}
+use Rattle.text.specs.Rows.{line, outside}
 use Rattle.book.specs.declared.records.Terms.{Terms}
 use Rattle.book.specs.declared.records.Asset.{Asset}
 use Rattle.book.specs.declared.records.Holder.{Holder}
@@ -51,6 +51,10 @@ position_bound = record { low = negsuc 999999; high = pos most_position; zero = 
 
 abbrev pub holder_bounds : List Bound
 holder_bounds = from_to 1 most_member ∷ from_to 1 most_number ∷ from_to 1 most_member ∷ from_to 1 most_agent ∷ position_bound ∷ []
+
+-- numbers that a line may have: one for each bound, each allowed
+abbrev pub Good : List Bound → List ℤ → Type 0
+Good bs zs = (length zs ≡ length bs) × (outside 2 bs zs ≡ 0)
 
 -- ---- the lines, and the file
 

@@ -1,5 +1,6 @@
 -- Whether terms, assets and rows make a book, as a test.
 use Rattle.std.specs.Prelude.{Bool, true, not, ◌&&◌, ◌||◌, List, [], ◌∷◌, ◌++◌, length, ◌==◌, nat_le, nat_lt}
+use Rattle.std.specs.List.{list_all}
 use Rattle.text.specs.Rows.{outside}
 use Rattle.book.specs.declared.records.Terms.{Terms}
 use Rattle.book.specs.declared.records.Asset.{Asset}
@@ -7,10 +8,6 @@ use Rattle.book.specs.declared.records.Holder.{Holder}
 use Rattle.book.specs.Limits.{most_bought, most_assets, most_holders}
 use Rattle.book.specs.Books.{Contents, stands_before, bought_by, sold_by}
 use Rattle.book.specs.Format.{terms_values, terms_bounds, asset_values, asset_bounds, holder_values, holder_bounds}
-
-abbrev pub all : {X : Type 0} → (X → Bool) → List X → Bool
-all passes [] = true
-all passes (x ∷ xs) = passes x && all passes xs
 
 -- each number is in its range
 abbrev pub terms_ok : Terms → Bool
@@ -24,14 +21,14 @@ holder_ok h = outside 2 holder_bounds (holder_values h) == 0
 
 -- a row ascends after those before it
 abbrev pub ascends : List Holder → Holder → Bool
-ascends gs h = all (λ g. stands_before g h) gs
+ascends gs h = list_all (λ g. stands_before g h) gs
 
 -- two rows of one member have one clearing member, and two of one clearing member one payment agent
 abbrev pub agree : Holder → Holder → Bool
 agree g h = (not (g.member == h.member) || g.clearing == h.clearing) && (not (g.clearing == h.clearing) || g.agent == h.agent)
 
 abbrev pub agrees : List Holder → Holder → Bool
-agrees gs h = all (λ g. agree g h) gs
+agrees gs h = list_all (λ g. agree g h) gs
 
 -- the rows hs may stand one after the other, after the rows gs
 abbrev pub rows : List Holder → List Holder → Bool
@@ -47,7 +44,7 @@ complete b = complete_rows b.holders
 
 -- terms and assets as a book has them
 abbrev pub headed : Terms → List Asset → Bool
-headed t xs = terms_ok t && (nat_lt 0 (length xs) && (nat_le (length xs) most_assets && all asset_ok xs))
+headed t xs = terms_ok t && (nat_lt 0 (length xs) && (nat_le (length xs) most_assets && list_all asset_ok xs))
 
 -- the contents of a book that exists
 abbrev pub lawful : Contents → Bool

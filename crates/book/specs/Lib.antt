@@ -3,6 +3,7 @@ pub mod Books
 pub mod Lawful
 pub mod Format
 pub mod Refusals
+pub mod Lines
 pub mod Reading
 pub mod Data
 pub mod Laws

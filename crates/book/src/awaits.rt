@@ -1,5 +1,5 @@
 // Which line of a file comes next.
-#[derive(Clone, Copy)]
+#[derive(Clone, Copy, Debug, PartialEq, Eq)]
 pub enum Awaits {
     Heading,
     Terms,

@@ -1,11 +1,12 @@
 // Why a book is not read or not written.
 ghost use Rattle.std.specs.Prelude.{◌≡◌};
-ghost use Rattle.book.specs.declared.fault.ReadFault.TheVariants.{NoMemory};
+ghost use Rattle.book.specs.declared.fault.ReadFault.TheVariants.{Refused, NoMemory};
+ghost use Rattle.book.specs.Reading.{refuse};
 
 use std::alloc::AllocFailed;
 
 // What is wrong with a file.
-#[derive(Clone, Copy)]
+#[derive(Clone, Copy, Debug, PartialEq, Eq)]
 pub enum Cause {
     // the first line is not `book,1`
     Heading,
@@ -24,7 +25,8 @@ pub enum Cause {
 }
 
 // A refused file: the cause, and where: the line and the field, from 1, or 0 where the cause has no such place.
-#[derive(Clone, Copy)]
+// The 0 stays a number: it is what is told, and an Option would be turned back into it wherever a refusal is told.
+#[derive(Clone, Copy, Debug, PartialEq, Eq)]
 pub struct Refusal {
     pub cause: Cause,
     pub line: usize,
@@ -32,10 +34,19 @@ pub struct Refusal {
 }
 
 // Why a file gives no book: it is refused, or there is no memory.
-#[derive(Clone, Copy)]
+#[derive(Clone, Copy, Debug, PartialEq, Eq)]
 pub enum ReadFault {
     Refused(Refusal),
     NoMemory,
+}
+
+impl ReadFault {
+    // A refused file.
+    pub(crate) fn refused(cause: Cause, line: usize, field: usize) -> ReadFault
+        ensures value { result ≡ Refused (refuse cause line field) }
+    {
+        ReadFault::Refused(Refusal { cause, line, field })
+    }
 }
 
 impl<T: Drop> From<AllocFailed<T>> for ReadFault {
@@ -47,7 +58,7 @@ impl<T: Drop> From<AllocFailed<T>> for ReadFault {
 }
 
 // Why a book gives no file.
-#[derive(Clone, Copy)]
+#[derive(Clone, Copy, Debug, PartialEq, Eq)]
 pub enum WriteFault {
     EmptyBook,
     SmallBuffer,

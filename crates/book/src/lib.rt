@@ -7,5 +7,8 @@ mod draft;
 pub mod fault;
 pub mod laws;
 pub mod limits;
+pub mod lines;
 pub mod numbers;
+mod record;
 pub mod records;
+mod rows;

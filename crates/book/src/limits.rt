@@ -11,3 +11,6 @@ pub const MOST_MEMBER: u16 = 999;
 
 // The highest number of a payment agent.
 pub const MOST_AGENT: u8 = 64;
+
+// The most lines of a pairing: one for each asset and holder.
+pub const MOST_LINES: usize = MOST_ASSETS * MOST_HOLDERS;

@@ -3,45 +3,32 @@
 
 use anyhow::anyhow;
 use book::book::Book;
-use book::fault::ReadFault;
-use cases::{next_line, read_table, unescape};
+use book::lines::Lines;
+use book_report::{Accepted, read_or_print};
+use cases::{read_table, unescape};
 use text::page::MOST_BYTES;
 
 // Says what the file is. An accepted book is written again, and must give the file.
 fn check(rt: &HostRuntime, book: &mut Book, file: &[u8]) -> anyhow::Result<()> {
-    let mut out = [0u8; MOST_BYTES];
-    match book.read(rt.alloc(), file) {
-        Ok(()) => {
-            let bytes = book.write(&mut out).unwrap_or(0);
-            if bytes > out.len() || &out[0..bytes] != file {
-                return Err(anyhow!("an accepted file is not the one that is written"));
-            }
-            let assets = book.assets().len();
-            let holders = book.holders().len();
-            let bought = book.contracts_bought();
-            println!(rt; "accepted,{bytes},{assets},{holders},{bought}")?;
-            Ok(())
-        }
-        Err(ReadFault::Refused(refusal)) => {
-            let number = refusal.cause.number();
-            let line = refusal.line;
-            let field = refusal.field;
-            println!(rt; "refused,{number},{line},{field}")?;
-            Ok(())
-        }
-        Err(ReadFault::NoMemory) => Err(anyhow!("no memory for the book")),
+    if !read_or_print(rt, book, file)? {
+        return Ok(());
     }
+    let mut out = [0u8; MOST_BYTES];
+    let bytes = book.write(&mut out)?;
+    if out.get(..bytes) != Some(file) {
+        return Err(anyhow!("an accepted file is not the one that is written"));
+    }
+    let accepted = Accepted { book, bytes };
+    println!(rt; "{accepted}")?;
+    Ok(())
 }
 
 fn play(rt: &HostRuntime) -> anyhow::Result<()> {
     let table = read_table(rt)?;
     let mut book = Book::empty(rt.alloc());
-    let mut rest = table.as_slice();
-    while !rest.is_empty() {
-        let (line, more) = next_line(rest);
-        let file = unescape(rt.alloc(), line)?;
+    for line in Lines::of(table.as_slice()) {
+        let file = unescape(rt.alloc(), line.bytes)?;
         check(rt, &mut book, file.as_slice())?;
-        rest = more;
     }
     Ok(())
 }

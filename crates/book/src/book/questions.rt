@@ -1,12 +1,12 @@
 // Questions to a book: what it holds, its look-up and its prices.
-ghost use Rattle.std.specs.Prelude.{◌≡◌, ◌&&◌, ◌==◌};
-ghost use Rattle.book.specs.Books.{row_among, row_of, invoice_of, invoice, value as value_of, buys as buys_of, sells as sells_of, volume as volume_of, bought as bought_of};
+ghost use Rattle.std.specs.Prelude.{◌≡◌};
+ghost use Rattle.book.specs.Books.{row_of, invoice_of, invoice, value as value_of, buys as buys_of, sells as sells_of, volume as volume_of, bought as bought_of};
 ghost use Rattle.book.specs.Data.{contents};
 ghost use Rattle.book.specs.Lookup.{TheOneRow};
 
 use crate::book::Book;
-use crate::draft::traded;
 use crate::records::{Asset, Holder, Terms};
+use crate::rows::Rows;
 
 // Factors are in millionths, so a price times a factor is in millionths of a centavo.
 const MILLIONTHS: u64 = 1_000_000;
@@ -43,24 +43,6 @@ impl Holder {
     {
         self.position.unsigned_abs()
     }
-
-    fn is(&self, member: u64, number: u64) -> bool
-        ensures value { result ≡ (self.now.member == member && self.now.number == number) }
-    {
-        u64::from(self.member) == member && u64::from(self.number) == number
-    }
-}
-
-// The row, from 1, of the holder with this member and number.
-fn find(holders: &[Holder], member: u64, number: u64) -> Option<usize>
-    ensures value { result ≡ row_among holders.now member number }
-{
-    for (i, h) in holders.iter().enumerate() {
-        if h.is(member, number) {
-            return Some(i + 1);
-        }
-    }
-    None
 }
 
 impl Book {
@@ -89,15 +71,20 @@ impl Book {
     pub fn contracts_bought(&self) -> u64
         ensures value { result ≡ bought_of (contents self.now) }
     {
-        let (bought, _) = traded(self.holders.as_slice());
-        bought
+        let rows = Rows {
+            holders: self.holders.as_slice(),
+        };
+        rows.bought()
     }
 
     fn row_with(&self, member: u64, number: u64) -> Option<usize>
         ensures value { result ≡ row_of (contents self.now) member number }
         ensures the_one_row_or_none { TheOneRow (contents self.now) member number result }
     {
-        find(self.holders.as_slice(), member, number)
+        self.holders
+            .binary_search_by_key(&(member, number), |h| h.key())
+            .ok()
+            .map(|i| i + 1)
     }
 
     // The row, from 1, of the holder with this member and number, if there is one.
@@ -112,12 +99,9 @@ impl Book {
     fn invoice_price(&self, asset: usize) -> u64
         ensures value { result ≡ invoice (contents self.now) asset }
     {
-        let assets = self.assets.as_slice();
-        if asset < assets.len() {
-            assets[asset].invoice_price(self.terms.price)
-        } else {
-            0
-        }
+        self.assets
+            .get(asset)
+            .map_or(0, |a| a.invoice_price(self.terms.price))
     }
 
     // The value of so many contracts of an asset, in centavos.

@@ -47,16 +47,9 @@ impl Book {
         ensures by_the_definition { Reads result (reading file.now) (contents self.new) }
         ensures accepts_exactly_the_texts_of_books { AcceptsExactlyTexts result file.now (contents self.new) }
     {
-        match Book::of_file(heap, file) {
-            Ok(book) => {
-                *self = book;
-                Ok(())
-            }
-            Err(e) => {
-                *self = Book::empty(heap);
-                Err(e)
-            }
-        }
+        *self = Book::empty(heap);
+        *self = Book::of_file(heap, file)?;
+        Ok(())
     }
 
     // Becomes the book of this file; where the file is refused, or there is no memory, the empty book.

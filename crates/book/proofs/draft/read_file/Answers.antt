@@ -4,6 +4,6 @@ use Rattle.book.specs.Data.{draft_of}
 use Rattle.book.proofs.FileOfBook.{few_holders}
 use Rattle.book.proofs.draft.read_file.Goals as goal
 
-pub is_complete-requires : goal.is_complete-requires
-is_complete-requires c =
-    omega (arith, few_holders (parts 10 c.args.file.now) (draft_of c.in_ok-draft.draft) c.in_ok-draft.ensures.by_the_definition, ap length c.as_slice.ensures.value)
+pub invariant_of-rows : goal.invariant_of-rows
+invariant_of-rows c =
+    record { few = omega (arith, few_holders (parts 10 c.args.file.now) (draft_of c.in_ok-draft.draft) c.in_ok-draft.ensures.by_the_definition, ap length c.as_slice.ensures.value) }

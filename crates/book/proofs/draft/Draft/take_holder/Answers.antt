@@ -1,23 +1,11 @@
-use Rattle.std.proofs.Common.{length, vec_items, codes, ap, ◌∙◌, arith}
-use Rattle.text.proofs.RoundTrip.{accepted_good}
-use Rattle.book.specs.Format.{size, holder_bounds}
-use Rattle.book.proofs.RecordValues.{holder_row}
+use Rattle.std.proofs.Common.{Err, ap, ◌∙◌}
+use Rattle.std.proofs.lemmas.Result.{err_from_is_err_and}
+use Rattle.book.specs.Format.{holder_from}
+use Rattle.book.specs.Data.{draft_of}
+use Rattle.book.proofs.RowOnLine.{unused}
 use Rattle.book.proofs.draft.Draft.take_holder.Goals as goal
 
-pub holder_of-requires : goal.holder_of-requires
-holder_of-requires c =
-    let row = holder_row (vec_items c.in-Ok.values) (accepted_good (codes "holder") holder_bounds c.args.line.now _ c.in-Ok.ensures.reads_the_row) in
-    let e = c.as_slice.ensures.value in
-    record {
-      five = ap length e ∙ row.five;
-      small = (
-        omega (arith, ap (λ zs. size zs 0) e, row.member.most),
-        (
-          omega (arith, ap (λ zs. size zs 1) e, row.number.most),
-          (
-            omega (arith, ap (λ zs. size zs 2) e, row.clearing.most),
-            (omega (arith, ap (λ zs. size zs 3) e, row.agent.most), omega (arith, ap (λ zs. size zs 4) e, row.position.1)),
-          ),
-        ),
-      );
-    }
+pub returns-in_err-record : goal.returns-in_err-record
+returns-in_err-record c =
+    let p = err_from_is_err_and c.from_residual.result c.from_residual.ensures.1 in
+    record { by_the_definition = unused holder_from _ c.args.line.now.number _ c.in_err-record.field-0.0 c.from_residual.result (draft_of c.args.self.now) c.in_err-record.ensures.by_the_definition (p.1 ∙ ap Err p.2) }
