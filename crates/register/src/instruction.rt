@@ -1,5 +1,5 @@
 // A credit or a move, as one value.
-#[derive(Clone, Copy)]
+#[derive(Clone, Copy, PartialEq, Eq, Debug)]
 pub enum Instruction {
     Credit {
         account: usize,
