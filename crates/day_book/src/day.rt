@@ -1,30 +1,31 @@
 // The day book, with what holds of every one.
 ghost use Rattle.std.specs.Prelude.{◌≡◌, ◌*◌, ◌≤◌, true, length};
 ghost use Rattle.table_register.specs.Make.{most_accounts, most_assets};
-ghost use Rattle.table_register.specs.Table.{cell, Bounded};
-ghost use Rattle.day_book.specs.Entering.{all_fit, most_entries};
-ghost use Rattle.day_book.specs.DayTable.{DayCovered, waits};
+ghost use Rattle.table_register.specs.Table.{Covered, Bounded, table_meaning};
+ghost use Rattle.day_book.specs.Entering.{each_accepted};
+ghost use Rattle.day_book.specs.DayTable.{waits};
 
-use crate::entries::Entries;
+use crate::entries::MOST_ENTRIES;
+use arrayvec::ArrayVec;
+use register::instruction::Instruction;
 use register::limits::MOST_ASSETS;
 
 pub mod calls;
 pub mod making;
 pub mod posting;
 
+// The fields of a table register of the posted balances, and the entries that wait, the oldest first.
 #[derive(Drop)]
 pub struct DayBook<'a> {
     cells: &'a mut [u64],
     accounts: usize,
     assets: usize,
     issues: [u64; MOST_ASSETS],
-    entries: Entries,
+    entries: ArrayVec<Instruction, MOST_ENTRIES>,
     ghost few_accounts: { accounts ≤ most_accounts },
     ghost few_assets: { assets ≤ most_assets },
     ghost size: { accounts * assets ≤ length cells.now },
-    ghost few_entries: { entries.count ≤ most_entries },
-    ghost long: { length entries.table ≡ most_entries },
-    ghost fit: { all_fit accounts assets (cell cells.now accounts assets) (waits entries) ≡ true },
-    ghost covered: { DayCovered cells.now accounts assets (waits entries) issues },
+    ghost covered: { Covered cells.now accounts assets issues },
     ghost bounded: { Bounded assets issues },
+    ghost accepted: { each_accepted (table_meaning cells.now accounts assets issues) (waits entries) ≡ true },
 }

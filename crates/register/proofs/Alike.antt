@@ -11,7 +11,7 @@ use Rattle.register.specs.contracts.fault.RegisterFaultPartialEq.TheImpl.{eq-val
 use Rattle.register.specs.Rules.{Meaning, Answer}
 use Rattle.register.specs.Instructions.{instruction_answer, after_instruction, after_all, alike, all_alike}
 
-all_push : (m : Meaning) (os : List Instruction) (o : Instruction) → after_all m (os ++ o ∷ []) ≡ after_instruction (after_all m os) o
+pub all_push : (m : Meaning) (os : List Instruction) (o : Instruction) → after_all m (os ++ o ∷ []) ≡ after_instruction (after_all m os) o
 all_push m [] o = refl
 all_push m (x ∷ os) o = all_push (after_instruction m x) os o
 
