@@ -1,5 +1,5 @@
 -- Memory whose later places stay. Assumes nothing.
-use Rattle.std.proofs.Common.{◌≡◌, ℕ, ◌+◌, ◌-◌, ◌*◌, ◌<◌, ◌≤◌, List, length, get_or, set, Some, None, Option, sym, refl, ap, ◌∙◌, subst, mul_comm, arith, length-set}
+use Rattle.std.proofs.Common.{◌≡◌, ℕ, ◌*◌, ◌<◌, List, set, Some, None, Option, sym, refl, ap, ◌∙◌, subst, mul_comm, arith, length-set}
 use Rattle.std.proofs.lemmas.List.{get_or-set_other}
 use Rattle.std.proofs.lemmas.Nat.{mul-add-lt}
 use Rattle.register.specs.Rules.{Meaning, Lawful, unless_refused, credit_refused, transfer_refused}
@@ -44,8 +44,8 @@ later_move m cells giver taker asset amount =
     later_unless _ (transfer_refused m giver taker asset amount) (moved_cells cells m.assets giver taker asset amount) cells (λ accepted.
     let told = move_told m giver taker asset amount accepted in
     later_both _ cells _ _
-        (later_set _ cells (place m.assets giver asset) _ (place_in m.accounts m.assets giver asset told.giver_known told.asset_known))
-        (later_set _ _ (place m.assets taker asset) _ (place_in m.accounts m.assets taker asset told.taker_known told.asset_known)))
+    (later_set _ cells (place m.assets giver asset) _ (place_in m.accounts m.assets giver asset told.giver_known told.asset_known))
+    (later_set _ _ (place m.assets taker asset) _ (place_in m.accounts m.assets taker asset told.taker_known told.asset_known)))
 
 -- the places that a register of this meaning has in memory
 abbrev pub size_of : Meaning → ℕ

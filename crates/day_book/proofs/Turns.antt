@@ -1,18 +1,16 @@
 -- Entries, each accepted in its turn. Assumes nothing.
-use Rattle.std.proofs.Common.{◌≡◌, ℕ, zero, suc, ◌+◌, ◌<◌, ◌≤◌, true, Some, None, Option, List, [], ◌∷◌, ◌++◌, length, get_or, take, Ok, Err, sym, refl, ap, ◌∙◌, ⊎_elim, arith}
+use Rattle.std.proofs.Common.{◌≡◌, ℕ, zero, suc, ◌+◌, ◌<◌, ◌≤◌, true, List, [], ◌∷◌, ◌++◌, length, get_or, take, Ok, Err, sym, refl, ap, ◌∙◌, ⊎_elim, arith}
 use Rattle.std.specs.Prelude.{is_ok}
 use Rattle.std.proofs.lemmas.Bool.{and_parts, and_from, cases_lt}
 use Rattle.std.proofs.lemmas.Bool.Decides.{nat_tests}
 use Rattle.register.specs.declared.instruction.Instruction.{Instruction}
 use Rattle.register.specs.declared.instruction.Instruction.TheVariants.{Credit, Move}
-use Rattle.register.specs.declared.fault.MakeFault.{MakeFault}
 use Rattle.register.specs.Rules.{most, Meaning, Lawful, Answer, unless_refused, credit_refused, transfer_refused, with_credit, with_move}
 use Rattle.register.specs.Instructions.{instruction_answer, after_instruction, after_all}
 use Rattle.register.proofs.Meanings.{accepted_none, credit_told, move_told}
 use Rattle.register.proofs.Sums.{at_most_sum}
 use Rattle.register.proofs.Alike.{all_more}
 use Rattle.register.proofs.Lawfuls.{all_lawful}
-use Rattle.table_register.specs.Make.{lay_out_refused}
 use Rattle.day_book.specs.declared.day.DayBook.{DayBook}
 use Rattle.day_book.specs.DayTable.{waits}
 use Rattle.day_book.specs.DayMeaning.{posted_means, posted_lawful}

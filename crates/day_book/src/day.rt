@@ -14,7 +14,10 @@ pub mod calls;
 pub mod making;
 pub mod posting;
 
-// The fields of a table register of the posted balances, and the entries that wait, the oldest first.
+// What a table register of the posted balances has, and the entries that wait, the oldest first.
+// The four fields are no `posted: TableRegister<'a>`, and making and reading stand here as they do there: of a `&mut`
+// in a struct within a struct the check tells the lender nothing once the day book is given up (tried so, the day book
+// itself was proved, and no longer that `carry_out_in_day_book` of `registers` has its balances back in the memory).
 #[derive(Drop)]
 pub struct DayBook<'a> {
     cells: &'a mut [u64],

@@ -14,7 +14,9 @@ pub(crate) fn added(entry: Instruction, asset: usize) -> u64
 {
     match entry {
         Instruction::Credit {
-            asset: of, amount, ..
+            asset: of,
+            amount,
+            ..
         } if of == asset => amount,
         _ => 0,
     }

@@ -49,8 +49,7 @@ fn counted_issues(
     // By index: after a loop over `issues.iter_mut().enumerate().take(assets)` the check knows no element of `issues`.
     let mut issues = [0u64; MOST_ASSETS];
     for asset in 0..assets {
-        issues[asset] =
-            column_sum(cells, accounts, assets, asset).ok_or(MakeFault::TooMuch)?;
+        issues[asset] = column_sum(cells, accounts, assets, asset).ok_or(MakeFault::TooMuch)?;
     }
     Ok(issues)
 }

@@ -15,6 +15,7 @@ use register::instruction::Instruction;
 use register::transfers::Transfers;
 
 impl DayBook<'_> {
+    // The balance that stands in the memory.
     fn posted_balance(&self, account: usize, asset: usize) -> u64
         ensures { result ≡ (posted_means self.now).balance account asset }
     {
@@ -24,6 +25,7 @@ impl DayBook<'_> {
         self.cells[account * self.assets + asset]
     }
 
+    // The issue of what stands in the memory.
     fn posted_issue(&self, asset: usize) -> u64
         ensures { result ≡ (posted_means self.now).issue asset }
     {

@@ -14,7 +14,8 @@ use register::limits::MOST_ASSETS;
 use register::transfers::Transfers;
 use table_register::table::TableRegister;
 
-// Posts an entry. `carry_out`, for registers of any make, does not tell what becomes of the memory.
+// Posts an entry. Each call is made here, and not by `carry_out`: that, for registers of any make, does not tell that
+// the later places of the memory stay.
 fn post_entry(posted: &mut TableRegister<'_>, entry: Instruction)
     ensures meaning { posted_means posted.new ≡ after_instruction (posted_means posted.old) entry }
     ensures later { LaterPlacesStay (posted.old.accounts * posted.old.assets) posted.old.cells.now posted.new.cells.now }
@@ -35,6 +36,7 @@ fn post_entry(posted: &mut TableRegister<'_>, entry: Instruction)
     };
 }
 
+// Posts the entries, the oldest first.
 fn post_each(posted: &mut TableRegister<'_>, entries: &[Instruction])
     ensures meaning { posted_means posted.new ≡ after_all (posted_means posted.old) entries.now }
     ensures later { LaterPlacesStay (posted.old.accounts * posted.old.assets) posted.old.cells.now posted.new.cells.now }

@@ -13,4 +13,4 @@ loop-entry-preserved c =
     let es = c.deref-entry-items.result.now in
     let i = c.loop-entry.entry-index in
     c.applied-balance.ensures ∙ ap (apply (get_or es i (Credit 0 0 0)) c.args.account c.args.asset) c.loop-entry.invariant
-        ∙ sym (next_balance c.args.self.now es c.deref-entry-items.ensures.0 i c.loop-entry-test.true c.args.account c.args.asset)
+    ∙ sym (next_balance c.args.self.now es c.deref-entry-items.ensures.0 i c.loop-entry-test.true c.args.account c.args.asset)

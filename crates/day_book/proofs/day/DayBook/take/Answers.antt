@@ -1,4 +1,4 @@
-use Rattle.std.proofs.Common.{◌≡◌, [], refl, ap, ◌∙◌, arith}
+use Rattle.std.proofs.Common.{refl, ap, ◌∙◌, arith}
 use Rattle.register.specs.Instructions.{after_all}
 use Rattle.register.proofs.Meanings.{same_meaning}
 use Rattle.table_register.specs.Table.{table_meaning}
@@ -31,4 +31,4 @@ returns-clause-meaning c =
     let n = c.args.accounts in
     let m = c.args.assets in
     ap (after_all (table_meaning cells n m c.args.issues)) (none_accepted (posted_means x) x.entries.items c.requires.empty x.accepted)
-        ∙ same_meaning _ _ refl refl (λ a s. refl) (made_issues cells n m c.requires.accepted c.args.issues c.requires.counted)
+    ∙ same_meaning _ _ refl refl (λ a s. refl) (made_issues cells n m c.requires.accepted c.args.issues c.requires.counted)
