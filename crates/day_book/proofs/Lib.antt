@@ -1,5 +1,2 @@
-pub mod Applies
-pub mod Posts
-pub mod Enters
-pub mod Shifts
-pub mod Oldest
+pub mod Turns
+pub mod Memory

@@ -3,4 +3,3 @@
 
 pub mod day;
 pub mod entries;
-pub mod entry;

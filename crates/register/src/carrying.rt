@@ -1,7 +1,7 @@
 // Carrying out instructions in registers of any make.
 ghost use Rattle.std.specs.Prelude.{◌≡◌, true};
 ghost use Rattle.register.specs.Registers.{meaning};
-ghost use Rattle.register.specs.Instructions.{instruction_answer, after_instruction, after_all, alike, all_alike};
+ghost use Rattle.register.specs.Instructions.{instruction_answer, after_instruction, after_all, all_alike};
 
 use crate::balances::Balances;
 use crate::fault::RegisterFault;
@@ -32,16 +32,6 @@ pub fn carry_out<R: Transfers>(
     }
 }
 
-fn same_answer(a: Result<(), RegisterFault>, b: Result<(), RegisterFault>) -> bool
-    ensures { result ≡ alike a b }
-{
-    match (a, b) {
-        (Ok(()), Ok(())) => true,
-        (Err(e), Err(f)) => e.number() == f.number(),
-        _ => false,
-    }
-}
-
 fn carry_out_each<A: Transfers, B: Transfers>(
     first: &mut A,
     second: &mut B,
@@ -56,7 +46,7 @@ fn carry_out_each<A: Transfers, B: Transfers>(
     for instruction in instructions {
         let a = carry_out(first, *instruction);
         let b = carry_out(second, *instruction);
-        same = same_answer(a, b) && same;
+        same &= a == b;
     }
     same
 }

@@ -10,7 +10,7 @@ use crate::fault::RegisterFault;
 use crate::transfers::Transfers;
 
 // Units of an asset from seller to buyer, against an amount of a currency from payer to payee.
-#[derive(Clone, Copy)]
+#[derive(Clone, Copy, PartialEq, Eq, Debug)]
 pub struct Delivery {
     pub seller: usize,
     pub buyer: usize,
@@ -23,7 +23,7 @@ pub struct Delivery {
 }
 
 // The refusal of either half.
-#[derive(Clone, Copy)]
+#[derive(Clone, Copy, PartialEq, Eq, Debug)]
 pub enum DeliveryFault {
     Units(RegisterFault),
     Money(RegisterFault),
@@ -37,25 +37,22 @@ pub fn check_delivery<S: Balances, C: Balances>(
 ) -> Result<(), DeliveryFault>
     ensures answers_by_the_rules { result ≡ answer (delivery_refused (meaning S.Balances securities.now) (meaning C.Balances cash.now) delivery) }
 {
-    if let Err(fault) = check_transfer(
+    check_transfer(
         securities,
         delivery.seller,
         delivery.buyer,
         delivery.asset,
         delivery.units,
-    ) {
-        return Err(DeliveryFault::Units(fault));
-    }
-    if let Err(fault) = check_transfer(
+    )
+    .map_err(DeliveryFault::Units)?;
+    check_transfer(
         cash,
         delivery.payer,
         delivery.payee,
         delivery.currency,
         delivery.amount,
-    ) {
-        return Err(DeliveryFault::Money(fault));
-    }
-    Ok(())
+    )
+    .map_err(DeliveryFault::Money)
 }
 
 // Moves units and money, each known to be accepted.

@@ -2,31 +2,53 @@
 use crate::call::Call;
 use register::balances::Balances;
 use register::carrying::carry_out;
-use register::fault::MakeFault;
+use register::fault::{MakeFault, RegisterFault};
 use register::transfers::Transfers;
 
+// Why a making, a credit or a move was refused.
 #[derive(Clone, Copy, PartialEq, Eq)]
-pub(crate) enum Answer {
-    Accepted,
-    Refused(u8),
-    Told(u64),
+pub(crate) enum Fault {
+    Making(MakeFault),
+    Call(RegisterFault),
 }
 
-pub(crate) fn making(made: Result<(), MakeFault>) -> Answer {
-    match made {
-        Ok(()) => Answer::Accepted,
-        Err(fault) => Answer::Refused(fault.number()),
+impl From<MakeFault> for Fault {
+    fn from(fault: MakeFault) -> Fault {
+        Fault::Making(fault)
     }
+}
+
+impl From<RegisterFault> for Fault {
+    fn from(fault: RegisterFault) -> Fault {
+        Fault::Call(fault)
+    }
+}
+
+impl Fault {
+    pub(crate) fn number(&self) -> u8 {
+        match self {
+            Fault::Making(fault) => fault.number(),
+            Fault::Call(fault) => fault.number(),
+        }
+    }
+}
+
+// A question is answered with a number, and what is accepted with none.
+pub(crate) type Answer = Result<Option<u64>, Fault>;
+
+pub(crate) fn making(made: Result<(), MakeFault>) -> Answer {
+    made?;
+    Ok(None)
 }
 
 pub(crate) fn answer_to<R: Transfers>(register: &mut R, call: &Call) -> Answer {
     match call {
-        Call::Make(_) => Answer::Accepted,
-        Call::Carry(instruction) => match carry_out(register, *instruction) {
-            Ok(()) => Answer::Accepted,
-            Err(fault) => Answer::Refused(fault.number()),
-        },
-        Call::Balance { account, asset } => Answer::Told(register.balance_of(*account, *asset)),
-        Call::Issue { asset } => Answer::Told(register.issue_of(*asset)),
+        Call::Make(_) => Ok(None),
+        Call::Carry(instruction) => {
+            carry_out(register, *instruction)?;
+            Ok(None)
+        }
+        Call::Balance { account, asset } => Ok(Some(register.balance_of(*account, *asset))),
+        Call::Issue { asset } => Ok(Some(register.issue_of(*asset))),
     }
 }

@@ -7,9 +7,8 @@ mod reading;
 
 use crate::answer::{Answer, answer_to, making};
 use crate::call::Call;
-use crate::reading::read_call;
+use crate::reading::{index_at, read_call};
 use day_book::day::DayBook;
-use std::alloc::{AllocError, Global};
 use std::io;
 use std::io::{BufRead, BufReader};
 use table_register::table::TableRegister;
@@ -19,21 +18,16 @@ fn print_answer(rt: &HostRuntime, table: Answer, day: Answer) -> io::Result<()> 
         return println!(rt; "the makes differ");
     }
     match table {
-        Answer::Accepted => println!(rt; "ok"),
-        Answer::Refused(number) => println!(rt; "refused,{number}"),
-        Answer::Told(number) => println!(rt; "{number}"),
+        Ok(None) => println!(rt; "ok"),
+        Ok(Some(number)) => println!(rt; "{number}"),
+        Err(fault) => {
+            let number = fault.number();
+            println!(rt; "refused,{number}")
+        }
     }
 }
 
-fn copied(heap: Global, balances: &[u64]) -> Result<Vec<u64>, AllocError> {
-    let mut cells = Vec::new(heap);
-    for units in balances {
-        cells.push(*units)?;
-    }
-    Ok(cells)
-}
-
-// Makes both registers over these balances, and answers the calls before the next making.
+// Makes both registers over these balances, and answers the calls that follow.
 fn run(
     rt: &HostRuntime,
     accounts: usize,
@@ -41,8 +35,8 @@ fn run(
     balances: &[u64],
     calls: &[Call],
 ) -> io::Result<()> {
-    let mut first = copied(rt.alloc(), balances)?;
-    let mut second = copied(rt.alloc(), balances)?;
+    let mut first = balances.to_vec(rt.alloc())?;
+    let mut second = balances.to_vec(rt.alloc())?;
     let mut table = TableRegister::over(first.as_mut_slice());
     let mut day = DayBook::over(second.as_mut_slice());
     print_answer(
@@ -51,12 +45,13 @@ fn run(
         making(day.lay_out(accounts, assets)),
     )?;
     for call in calls {
-        if let Call::Make(_) = call {
-            break;
-        }
         print_answer(rt, answer_to(&mut table, call), answer_to(&mut day, call))?;
     }
     Ok(())
+}
+
+fn is_making(call: &Call) -> bool {
+    matches!(call, Call::Make(_))
 }
 
 fn main(rt: HostRuntime) -> io::Result<()> {
@@ -65,17 +60,14 @@ fn main(rt: HostRuntime) -> io::Result<()> {
     for line in BufReader::new(heap, rt.stdin())?.lines(heap) {
         calls.push(read_call(heap, line?.as_str())?)?;
     }
-    for at in 0..calls.len() {
-        if let Call::Make(numbers) = &calls[at] {
-            if numbers.len() >= 2 {
-                run(
-                    &rt,
-                    numbers[0] as usize,
-                    numbers[1] as usize,
-                    &numbers[2..],
-                    &calls[at + 1..],
-                )?;
-            }
+    // Each making, with the calls before the next.
+    for part in calls.chunk_by(|_, next| !is_making(next)) {
+        let Some((Call::Make(numbers), calls)) = part.split_first() else {
+            continue;
+        };
+        if let [_, _, balances @ ..] = numbers.as_slice() {
+            let (accounts, assets) = (index_at(numbers, 0), index_at(numbers, 1));
+            run(&rt, accounts, assets, balances, calls)?;
         }
     }
     Ok(())

@@ -7,18 +7,25 @@ use register::instruction::Instruction;
 use register::transfers::Transfers;
 use std::io;
 
+// `accepted`, or the number of the refusal.
+fn print_answer(
+    rt: &HostRuntime,
+    make: &str,
+    accepted: &str,
+    answer: Result<(), u8>,
+) -> io::Result<()> {
+    match answer {
+        Ok(()) => println!(rt; "{make},{accepted}"),
+        Err(number) => println!(rt; "{make},refused,{number}"),
+    }
+}
+
 pub(crate) fn print_making(
     rt: &HostRuntime,
     make: &str,
     answer: Result<(), MakeFault>,
 ) -> io::Result<()> {
-    match answer {
-        Ok(()) => println!(rt; "{make},made"),
-        Err(fault) => {
-            let number = fault.number();
-            println!(rt; "{make},refused,{number}")
-        }
-    }
+    print_answer(rt, make, "made", answer.map_err(|fault| fault.number()))
 }
 
 pub(crate) fn print_answers<R: Transfers>(
@@ -28,13 +35,8 @@ pub(crate) fn print_answers<R: Transfers>(
     instructions: &[Instruction],
 ) -> io::Result<()> {
     for instruction in instructions {
-        match carry_out(register, *instruction) {
-            Ok(()) => println!(rt; "{make},ok")?,
-            Err(fault) => {
-                let number = fault.number();
-                println!(rt; "{make},refused,{number}")?;
-            }
-        }
+        let answer = carry_out(register, *instruction);
+        print_answer(rt, make, "ok", answer.map_err(|fault| fault.number()))?;
     }
     Ok(())
 }
@@ -62,6 +64,15 @@ pub(crate) fn print_memory(rt: &HostRuntime, make: &str, cells: &[u64]) -> io::R
     Ok(())
 }
 
+fn print_refused_delivery(rt: &HostRuntime, fault: DeliveryFault) -> io::Result<()> {
+    let (side, fault) = match fault {
+        DeliveryFault::Units(fault) => ("units", fault),
+        DeliveryFault::Money(fault) => ("money", fault),
+    };
+    let number = fault.number();
+    println!(rt; "refused,{side},{number}")
+}
+
 pub(crate) fn print_deliveries<S: Transfers, C: Transfers>(
     rt: &HostRuntime,
     securities: &mut S,
@@ -71,14 +82,7 @@ pub(crate) fn print_deliveries<S: Transfers, C: Transfers>(
     for delivery in deliveries {
         match deliver_against_payment(securities, cash, *delivery) {
             Ok(()) => println!(rt; "delivered")?,
-            Err(DeliveryFault::Units(fault)) => {
-                let number = fault.number();
-                println!(rt; "refused,units,{number}")?;
-            }
-            Err(DeliveryFault::Money(fault)) => {
-                let number = fault.number();
-                println!(rt; "refused,money,{number}")?;
-            }
+            Err(fault) => print_refused_delivery(rt, fault)?,
         }
     }
     print_balances(rt, "securities", securities)?;

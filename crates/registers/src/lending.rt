@@ -24,6 +24,8 @@ fn carry_out_all<R: Transfers>(register: &mut R, instructions: &[Instruction])
 }
 
 // Carries the instructions out in a table register over the memory, and has the memory back.
+// This and the next are no generic function over the make: in a `R: Transfers` the check sees no reference to the
+// memory, and would not know what the memory holds once the register is given up.
 pub(crate) fn carry_out_in_table(
     cells: &mut [u64],
     accounts: usize,

@@ -6,12 +6,10 @@
 mod answers;
 mod lending;
 mod lists;
+mod makes;
 mod runs;
 
-use crate::runs::{
-    run_both, run_day_book, run_deliveries_from_day_books, run_deliveries_from_tables, run_lent,
-    run_makings, run_table,
-};
+use crate::runs::{run_both, run_day_book, run_deliveries, run_lent, run_makings, run_table};
 use std::io;
 
 fn main(rt: HostRuntime) -> io::Result<()> {
@@ -20,6 +18,5 @@ fn main(rt: HostRuntime) -> io::Result<()> {
     run_day_book(&rt)?;
     run_lent(&rt)?;
     run_both(&rt)?;
-    run_deliveries_from_tables(&rt)?;
-    run_deliveries_from_day_books(&rt)
+    run_deliveries(&rt)
 }

@@ -2,12 +2,16 @@
 use crate::answers::{print_answers, print_balances, print_deliveries, print_making, print_memory};
 use crate::lending::{carry_out_in_day_book, carry_out_in_table};
 use crate::lists::{ACCOUNTS, ASSETS, OPENING, ROUNDS, deliveries, refusals, to_and_fro};
+use crate::makes::Make;
 use day_book::day::DayBook;
 use register::carrying::answer_alike;
 use register::limits::MOST_ISSUED;
-use register::transfers::Transfers;
 use std::io;
 use table_register::table::TableRegister;
+
+fn lay_out<R: Make>(rt: &HostRuntime, make: &str, register: &mut R) -> io::Result<()> {
+    print_making(rt, make, register.lay_out(ACCOUNTS, ASSETS))
+}
 
 // Making is refused for the counts or the size, then for a sum; the memory is then as it was.
 pub(crate) fn run_makings(rt: &HostRuntime) -> io::Result<()> {
@@ -25,17 +29,19 @@ pub(crate) fn run_makings(rt: &HostRuntime) -> io::Result<()> {
     print_memory(rt, "both", &cells)
 }
 
+// Lays a register out, has it carry out both lists, and prints its balances.
+fn run_make<R: Make>(rt: &HostRuntime, make: &str, register: &mut R) -> io::Result<()> {
+    lay_out(rt, make, register)?;
+    print_answers(rt, make, register, &refusals())?;
+    for _ in 0..ROUNDS {
+        print_answers(rt, make, register, &to_and_fro())?;
+    }
+    print_balances(rt, make, register)
+}
+
 pub(crate) fn run_table(rt: &HostRuntime) -> io::Result<()> {
     let mut cells = OPENING;
-    {
-        let mut table = TableRegister::over(&mut cells);
-        print_making(rt, "table", table.lay_out(ACCOUNTS, ASSETS))?;
-        print_answers(rt, "table", &mut table, &refusals())?;
-        for _ in 0..ROUNDS {
-            print_answers(rt, "table", &mut table, &to_and_fro())?;
-        }
-        print_balances(rt, "table", &table)?;
-    }
+    run_make(rt, "table", &mut TableRegister::over(&mut cells))?;
     print_memory(rt, "table", &cells)
 }
 
@@ -43,12 +49,7 @@ pub(crate) fn run_day_book(rt: &HostRuntime) -> io::Result<()> {
     let mut cells = OPENING;
     {
         let mut day = DayBook::over(&mut cells);
-        print_making(rt, "day", day.lay_out(ACCOUNTS, ASSETS))?;
-        print_answers(rt, "day", &mut day, &refusals())?;
-        for _ in 0..ROUNDS {
-            print_answers(rt, "day", &mut day, &to_and_fro())?;
-        }
-        print_balances(rt, "day", &day)?;
+        run_make(rt, "day", &mut day)?;
         let waiting = day.waiting();
         println!(rt; "day,waiting,{waiting}")?;
         day.post();
@@ -74,61 +75,52 @@ pub(crate) fn run_both(rt: &HostRuntime) -> io::Result<()> {
     let mut first = OPENING;
     let mut second = OPENING;
     let mut table = TableRegister::over(&mut first);
-    print_making(rt, "table", table.lay_out(ACCOUNTS, ASSETS))?;
+    lay_out(rt, "table", &mut table)?;
     let mut day = DayBook::over(&mut second);
-    print_making(rt, "day", day.lay_out(ACCOUNTS, ASSETS))?;
+    lay_out(rt, "day", &mut day)?;
     let alike = answer_alike(&mut table, &mut day, &refusals());
     println!(rt; "both,alike,{alike}")
 }
 
-fn deliver_against_table<S: Transfers>(rt: &HostRuntime, securities: &mut S) -> io::Result<()> {
+// Deliveries against cash in a table, and then in a day book, each from the opening balances.
+fn deliver_from<S: Make>(
+    rt: &HostRuntime,
+    make: &str,
+    first: &mut S,
+    second: &mut S,
+) -> io::Result<()> {
     let mut cells = OPENING;
-    let mut cash = TableRegister::over(&mut cells);
-    print_making(rt, "cash in a table", cash.lay_out(ACCOUNTS, ASSETS))?;
-    print_deliveries(rt, securities, &mut cash, &deliveries())
+    lay_out(rt, make, first)?;
+    deliver_against(rt, first, "cash in a table", &mut TableRegister::over(&mut cells))?;
+    let mut cells = OPENING;
+    lay_out(rt, make, second)?;
+    deliver_against(rt, second, "cash in a day book", &mut DayBook::over(&mut cells))
 }
 
-fn deliver_against_day_book<S: Transfers>(rt: &HostRuntime, securities: &mut S) -> io::Result<()> {
-    let mut cells = OPENING;
-    let mut cash = DayBook::over(&mut cells);
-    print_making(rt, "cash in a day book", cash.lay_out(ACCOUNTS, ASSETS))?;
-    print_deliveries(rt, securities, &mut cash, &deliveries())
+fn deliver_against<S: Make, C: Make>(
+    rt: &HostRuntime,
+    securities: &mut S,
+    make: &str,
+    cash: &mut C,
+) -> io::Result<()> {
+    lay_out(rt, make, cash)?;
+    print_deliveries(rt, securities, cash, &deliveries())
 }
 
-pub(crate) fn run_deliveries_from_tables(rt: &HostRuntime) -> io::Result<()> {
-    let mut first = OPENING;
-    let mut second = OPENING;
-    let mut securities = TableRegister::over(&mut first);
-    print_making(
+// Deliveries against payment between each two makes.
+pub(crate) fn run_deliveries(rt: &HostRuntime) -> io::Result<()> {
+    let (mut first, mut second) = (OPENING, OPENING);
+    deliver_from(
         rt,
         "securities in a table",
-        securities.lay_out(ACCOUNTS, ASSETS),
+        &mut TableRegister::over(&mut first),
+        &mut TableRegister::over(&mut second),
     )?;
-    deliver_against_table(rt, &mut securities)?;
-    let mut securities = TableRegister::over(&mut second);
-    print_making(
-        rt,
-        "securities in a table",
-        securities.lay_out(ACCOUNTS, ASSETS),
-    )?;
-    deliver_against_day_book(rt, &mut securities)
-}
-
-pub(crate) fn run_deliveries_from_day_books(rt: &HostRuntime) -> io::Result<()> {
-    let mut first = OPENING;
-    let mut second = OPENING;
-    let mut securities = DayBook::over(&mut first);
-    print_making(
+    let (mut first, mut second) = (OPENING, OPENING);
+    deliver_from(
         rt,
         "securities in a day book",
-        securities.lay_out(ACCOUNTS, ASSETS),
-    )?;
-    deliver_against_table(rt, &mut securities)?;
-    let mut securities = DayBook::over(&mut second);
-    print_making(
-        rt,
-        "securities in a day book",
-        securities.lay_out(ACCOUNTS, ASSETS),
-    )?;
-    deliver_against_day_book(rt, &mut securities)
+        &mut DayBook::over(&mut first),
+        &mut DayBook::over(&mut second),
+    )
 }

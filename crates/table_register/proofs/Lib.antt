@@ -1,3 +1,4 @@
 pub mod Overs
 pub mod Tables
 pub mod Makes
+pub mod Rows

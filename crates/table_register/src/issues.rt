@@ -1,9 +1,18 @@
 // The sums of the balances in memory, which are its issues once it is made a register.
-ghost use Rattle.std.specs.Prelude.{◌≡◌, ℕ, ◌*◌, ◌<◌, ◌≤◌, length, IfOk, slice_index};
-ghost use Rattle.table_register.specs.Make.{most_accounts, most_assets, column, within_most, make_refused, refusal};
+ghost use Rattle.std.specs.Prelude.{◌≡◌, ℕ, ◌+◌, ◌*◌, ◌<◌, ◌≤◌, length, IfOk, slice_index};
+ghost use Rattle.register.specs.Rules.{most};
+ghost use Rattle.table_register.specs.Make.{most_accounts, most_assets, column, within_most, shaped, make_refused, refusal};
 
 use register::fault::MakeFault;
 use register::limits::{MOST_ACCOUNTS, MOST_ASSETS, MOST_ISSUED};
+
+// The sum with one balance more, or none where it is above the most.
+fn with_balance(sum: u64, held: u64) -> Option<u64>
+    requires { sum ≤ most }
+    ensures { result ≡ within_most (sum + held) }
+{
+    sum.checked_add(held).filter(|sum| *sum <= MOST_ISSUED)
+}
 
 // The sum of one asset's balances, or none where it is above the most.
 fn column_sum(cells: &[u64], accounts: usize, assets: usize, asset: usize) -> Option<u64>
@@ -11,14 +20,19 @@ fn column_sum(cells: &[u64], accounts: usize, assets: usize, asset: usize) -> Op
     ensures { result ≡ within_most (column cells.now accounts assets asset) }
 {
     let mut sum = 0u64;
-    for account in 0..accounts {
-        let held = cells[account * assets + asset];
-        if held > MOST_ISSUED - sum {
-            return None;
-        }
-        sum += held;
+    for row in cells.chunks_exact(assets) {
+        sum = with_balance(sum, row[asset])?;
     }
     Some(sum)
+}
+
+// Whether the counts are in range, and the memory has a place for each balance.
+fn is_shaped(cells: &[u64], accounts: usize, assets: usize) -> bool
+    ensures { result ≡ shaped accounts assets (length cells.now) }
+{
+    (1..=MOST_ACCOUNTS).contains(&accounts)
+        && (1..=MOST_ASSETS).contains(&assets)
+        && cells.len() == accounts * assets
 }
 
 fn counted_issues(
@@ -29,18 +43,13 @@ fn counted_issues(
     ensures fault { refusal result ≡ make_refused cells.now accounts assets }
     ensures issues { IfOk result (λ k. ((s : ℕ) → s < assets → slice_index k s ≡ column cells.now accounts assets s)) }
 {
-    if accounts < 1 || accounts > MOST_ACCOUNTS || assets < 1 || assets > MOST_ASSETS {
+    if !is_shaped(cells, accounts, assets) {
         return Err(MakeFault::BadShape);
     }
-    if cells.len() != accounts * assets {
-        return Err(MakeFault::BadShape);
-    }
+    // By index: after a loop over `issues.iter_mut().enumerate().take(assets)` the check knows no element of `issues`.
     let mut issues = [0u64; MOST_ASSETS];
     for asset in 0..assets {
-        let Some(sum) = column_sum(cells, accounts, assets, asset) else {
-            return Err(MakeFault::TooMuch);
-        };
-        issues[asset] = sum;
+        issues[asset] = column_sum(cells, accounts, assets, asset).ok_or(MakeFault::TooMuch)?;
     }
     Ok(issues)
 }

@@ -10,10 +10,10 @@ pub mod making;
 
 #[derive(Drop)]
 pub struct TableRegister<'a> {
-    cells: &'a mut [u64],
-    accounts: usize,
-    assets: usize,
-    issues: [u64; MOST_ASSETS],
+    pub cells: &'a mut [u64],
+    pub accounts: usize,
+    pub assets: usize,
+    pub issues: [u64; MOST_ASSETS],
     ghost few_accounts: { accounts ≤ most_accounts },
     ghost few_assets: { assets ≤ most_assets },
     ghost size: { accounts * assets ≤ length cells.now },

@@ -6,8 +6,7 @@ ghost use Rattle.day_book.specs.DayTable.{waits};
 ghost use Rattle.day_book.specs.DayMeaning.{means};
 
 use crate::day::DayBook;
-use crate::entries::{Entries, MOST_ENTRIES};
-use crate::entry::Entry;
+use arrayvec::ArrayVec;
 use register::fault::MakeFault;
 use register::limits::MOST_ASSETS;
 use table_register::issues::issues_of;
@@ -20,23 +19,12 @@ impl<'a> DayBook<'a> {
         ensures memory_is_as_it_was { result.cells.now ≡ cells.old }
         ensures memory_is_kept { result.cells.ghost_name ≡ cells.entry.ghost_name }
     {
-        let blank = Entry {
-            credit: false,
-            giver: 0,
-            taker: 0,
-            asset: 0,
-            amount: 0,
-        };
-        let entries = Entries {
-            table: [blank; MOST_ENTRIES],
-            count: 0,
-        };
         DayBook {
             cells,
             accounts: 0,
             assets: 0,
             issues: [0; MOST_ASSETS],
-            entries,
+            entries: ArrayVec::new(),
         }
     }
 }

@@ -1,89 +1,92 @@
-// Posting: the entries that wait are written to the memory, the oldest first.
-ghost use Rattle.std.specs.Prelude.{◌≡◌, ◌+◌, ◌*◌, ◌<◌, true, false, [], length, slice_index_or};
-ghost use Rattle.day_book.specs.Entering.{blank};
+// Posting: the entries that wait are carried out in the register of the posted balances, the oldest first.
+ghost use Rattle.std.specs.Prelude.{◌≡◌, ◌*◌, ◌≤◌, [], length};
+ghost use Rattle.register.specs.Rules.{Lawful};
+ghost use Rattle.register.specs.Instructions.{after_instruction, after_all};
+ghost use Rattle.table_register.specs.Make.{most_accounts, most_assets};
+ghost use Rattle.table_register.specs.Table.{table_meaning};
+ghost use Rattle.table_register.specs.TableMeaning.{means as posted_means};
 ghost use Rattle.day_book.specs.DayTable.{waits, LaterPlacesStay, Posted};
 ghost use Rattle.day_book.specs.DayMeaning.{means};
 
 use crate::day::DayBook;
+use register::instruction::Instruction;
+use register::limits::MOST_ASSETS;
+use register::transfers::Transfers;
+use table_register::table::TableRegister;
+
+// Posts an entry. Each call is made here, and not by `carry_out`: that, for registers of any make, does not tell that
+// the later places of the memory stay.
+fn post_entry(posted: &mut TableRegister<'_>, entry: Instruction)
+    ensures meaning { posted_means posted.new ≡ after_instruction (posted_means posted.old) entry }
+    ensures later { LaterPlacesStay (posted.old.accounts * posted.old.assets) posted.old.cells.now posted.new.cells.now }
+    ensures lender { posted.new.cells.ghost_name ≡ posted.old.cells.ghost_name }
+{
+    let _ = match entry {
+        Instruction::Credit {
+            account,
+            asset,
+            amount,
+        } => posted.credit(account, asset, amount),
+        Instruction::Move {
+            giver,
+            taker,
+            asset,
+            amount,
+        } => posted.transfer(giver, taker, asset, amount),
+    };
+}
+
+// Posts the entries, the oldest first.
+fn post_each(posted: &mut TableRegister<'_>, entries: &[Instruction])
+    ensures meaning { posted_means posted.new ≡ after_all (posted_means posted.old) entries.now }
+    ensures later { LaterPlacesStay (posted.old.accounts * posted.old.assets) posted.old.cells.now posted.new.cells.now }
+    ensures lender { posted.new.cells.ghost_name ≡ posted.old.cells.ghost_name }
+{
+    for entry in entries {
+        post_entry(posted, *entry);
+    }
+}
+
+// Lends the memory to a table register, which posts the entries, and tells the issues that it came to.
+fn post_in(
+    cells: &mut [u64],
+    accounts: usize,
+    assets: usize,
+    issues: [u64; MOST_ASSETS],
+    entries: &[Instruction],
+) -> [u64; MOST_ASSETS]
+    requires few { (accounts ≤ most_accounts) × (assets ≤ most_assets) }
+    requires size { accounts * assets ≤ length cells.old }
+    requires lawful { Lawful (table_meaning cells.old accounts assets issues) }
+    ensures meaning { table_meaning cells.new accounts assets result ≡ after_all (table_meaning cells.old accounts assets issues) entries.now }
+    ensures later { LaterPlacesStay (accounts * assets) cells.old cells.new }
+    ensures lawful { Lawful (table_meaning cells.new accounts assets result) }
+{
+    let mut posted = TableRegister {
+        cells,
+        accounts,
+        assets,
+        issues,
+    };
+    post_each(&mut posted, entries);
+    posted.issues
+}
 
 impl DayBook<'_> {
-    // The place of a balance in the memory.
-    pub(crate) fn place(&self, account: usize, asset: usize) -> usize
-        requires known { (account < self.now.accounts) × (asset < self.now.assets) }
-        ensures place { result ≡ account * self.now.assets + asset }
-        ensures inside { result < self.now.accounts * self.now.assets }
-    {
-        account * self.assets + asset
-    }
-
-    // Posts the giver's half of the oldest entry, a move. What is left of it is a credit to the taker.
-    fn post_debit(&mut self)
-        requires some { 0 < self.old.entries.count }
-        requires moves { (slice_index_or self.old.entries.table 0 blank).credit ≡ false }
-        ensures meaning { means self.new ≡ means self.old }
-        ensures later { LaterPlacesStay (self.old.accounts * self.old.assets) self.old.cells.now self.new.cells.now }
-        ensures left { self.new.entries.count ≡ self.old.entries.count }
-        ensures credits { (slice_index_or self.new.entries.table 0 blank).credit ≡ true }
-        ensures lender { self.new.cells.ghost_name ≡ self.old.cells.ghost_name }
-    {
-        let mut e = self.entries.table[0];
-        let from = self.place(e.giver, e.asset);
-        let held = self.cells[from];
-        e.credit = true;
-        self.cells[from] = held - e.amount;
-        self.entries.table[0] = e;
-    }
-
-    // Posts the oldest entry, a credit.
-    fn post_credit(&mut self)
-        requires some { 0 < self.old.entries.count }
-        requires credits { (slice_index_or self.old.entries.table 0 blank).credit ≡ true }
-        ensures meaning { means self.new ≡ means self.old }
-        ensures later { LaterPlacesStay (self.old.accounts * self.old.assets) self.old.cells.now self.new.cells.now }
-        ensures left { self.new.entries.count + 1 ≡ self.old.entries.count }
-        ensures lender { self.new.cells.ghost_name ≡ self.old.cells.ghost_name }
-    {
-        let e = self.entries.table[0];
-        let to = self.place(e.taker, e.asset);
-        let had = self.cells[to];
-        self.cells[to] = had + e.amount;
-        self.entries.drop_first();
-    }
-
-    // Posts the oldest entry.
-    fn post_first(&mut self)
-        requires some { 0 < self.old.entries.count }
-        ensures meaning { means self.new ≡ means self.old }
-        ensures later { LaterPlacesStay (self.old.accounts * self.old.assets) self.old.cells.now self.new.cells.now }
-        ensures left { self.new.entries.count + 1 ≡ self.old.entries.count }
-        ensures lender { self.new.cells.ghost_name ≡ self.old.cells.ghost_name }
-    {
-        let e = self.entries.table[0];
-        if !e.credit {
-            self.post_debit();
-        }
-        self.post_credit();
-    }
-
-    // Posts all entries.
-    pub(crate) fn post_all(&mut self)
-        ensures meaning { means self.new ≡ means self.old }
-        ensures later { LaterPlacesStay (self.old.accounts * self.old.assets) self.old.cells.now self.new.cells.now }
-        ensures none { self.new.entries.count ≡ 0 }
-        ensures lender { self.new.cells.ghost_name ≡ self.old.cells.ghost_name }
-    {
-        while self.entries.count > 0 {
-            self.post_first();
-        }
-    }
-
-    fn post_waiting(&mut self)
+    pub(crate) fn post_waiting(&mut self)
         ensures meaning { means self.new ≡ means self.old }
         ensures none { waits self.new.entries ≡ [] }
         ensures posted { Posted (means self.old) self.old.cells.now self.new.cells.now }
         ensures lender { self.new.cells.ghost_name ≡ self.old.cells.ghost_name }
     {
-        self.post_all();
+        let entries = self.entries.take();
+        self.issues = post_in(
+            self.cells,
+            self.accounts,
+            self.assets,
+            self.issues,
+            &entries,
+        );
     }
 
     // Posts what waits, so that the memory alone tells the balances.
@@ -96,16 +99,10 @@ impl DayBook<'_> {
         self.post_waiting();
     }
 
-    fn count_waiting(&self) -> usize
-        ensures { result ≡ length (waits self.now.entries) }
-    {
-        self.entries.count
-    }
-
     // How many entries wait.
     pub fn waiting(&self) -> usize
         ensures counts_what_waits { result ≡ length (waits self.now.entries) }
     {
-        self.count_waiting()
+        self.entries.len()
     }
 }

@@ -5,9 +5,8 @@ use Rattle.register.specs.declared.instruction.Instruction.TheVariants.{Credit}
 use Rattle.register.specs.Rules.{Meaning}
 use Rattle.register.specs.Registers.{meaning}
 use Rattle.register.specs.Instructions.{instruction_answer, after_instruction, after_all, alike, all_alike}
-use Rattle.register.proofs.Alike.{all_more, alike_more, one_meaning}
+use Rattle.register.proofs.Alike.{equal_alike, all_more, alike_more, one_meaning}
 use Rattle.register.proofs.carrying.carry_out_each.Goals as goal
-use Rattle.register.proofs.carrying.carry_out_each.Goals.{then-same_answer, else-same_answer}
 
 pub loop-instruction-preserved : goal.loop-instruction-preserved
 loop-instruction-preserved g c =
@@ -20,11 +19,10 @@ loop-instruction-preserved g c =
     let inv = c.loop-instruction.invariant in
     let a_is = c.carry_out-a.ensures.answers_by_the_rules ∙ ap (λ k. instruction_answer k o) inv.0 in
     let b_is = c.carry_out-b.ensures.answers_by_the_rules ∙ ap (λ k. instruction_answer k o) inv.1 in
-    let res : c.same_answer.result ≡ alike (instruction_answer (after_all m (take i es)) o) (instruction_answer (after_all n (take i es)) o) = c.same_answer.ensures ∙ ap (λ k. alike k c.carry_out-b.result) a_is ∙ ap (λ k. alike (instruction_answer (after_all m (take i es)) o) k) b_is in
-    let test : c.if-same_answer.same ≡ (c.same_answer.result && c.loop-instruction.same) = elim c.if-same_answer.branch [ then-same_answer w ↦ w.same-is ∙ sym (ap (λ b. b && c.loop-instruction.same) w.if-same_answer.true) | else-same_answer w ↦ w.same-is ∙ w.if-same_answer.false ∙ sym (ap (λ b. b && c.loop-instruction.same) w.if-same_answer.false) ] in (
+    let same : c.eq-same.result ≡ alike (instruction_answer (after_all m (take i es)) o) (instruction_answer (after_all n (take i es)) o) = c.eq-same.ensures ∙ equal_alike c.carry_out-a.result c.carry_out-b.result ∙ ap (λ k. alike k c.carry_out-b.result) a_is ∙ ap (alike (instruction_answer (after_all m (take i es)) o)) b_is in (
       c.carry_out-a.ensures.meaning_follows_the_rules ∙ ap (λ k. after_instruction k o) inv.0 ∙ sym (all_more m es i (Credit 0 0 0) h),
       c.carry_out-b.ensures.meaning_follows_the_rules ∙ ap (λ k. after_instruction k o) inv.1 ∙ sym (all_more n es i (Credit 0 0 0) h),
-      test ∙ ap (λ b. b && c.loop-instruction.same) res ∙ ap (λ t. alike (instruction_answer (after_all m (take i es)) o) (instruction_answer (after_all n (take i es)) o) && t) inv.2 ∙ sym (alike_more m n es i (Credit 0 0 0) h),
+      ap (λ b. b && c.eq-same.result) inv.2 ∙ ap (λ t. all_alike m n (take i es) && t) same ∙ sym (alike_more m n es i (Credit 0 0 0) h),
       c.carry_out-a.ensures.memory_is_kept ∙ inv.3,
       c.carry_out-b.ensures.memory_is_kept ∙ inv.4,
     )

@@ -1,0 +1,96 @@
+-- Entries, each accepted in its turn. Assumes nothing.
+use Rattle.std.proofs.Common.{◌≡◌, ℕ, zero, suc, ◌+◌, ◌<◌, ◌≤◌, true, List, [], ◌∷◌, ◌++◌, length, get_or, take, Ok, Err, sym, refl, ap, ◌∙◌, ⊎_elim, arith}
+use Rattle.std.specs.Prelude.{is_ok}
+use Rattle.std.proofs.lemmas.Bool.{and_parts, and_from, cases_lt}
+use Rattle.std.proofs.lemmas.Bool.Decides.{nat_tests}
+use Rattle.register.specs.declared.instruction.Instruction.{Instruction}
+use Rattle.register.specs.declared.instruction.Instruction.TheVariants.{Credit, Move}
+use Rattle.register.specs.Rules.{most, Meaning, Lawful, Answer, unless_refused, credit_refused, transfer_refused, with_credit, with_move}
+use Rattle.register.specs.Instructions.{instruction_answer, after_instruction, after_all}
+use Rattle.register.proofs.Meanings.{accepted_none, credit_told, move_told}
+use Rattle.register.proofs.Sums.{at_most_sum}
+use Rattle.register.proofs.Alike.{all_more}
+use Rattle.register.proofs.Lawfuls.{all_lawful}
+use Rattle.day_book.specs.declared.day.DayBook.{DayBook}
+use Rattle.day_book.specs.DayTable.{waits}
+use Rattle.day_book.specs.DayMeaning.{posted_means, posted_lawful}
+use Rattle.day_book.specs.Entering.{apply, added, each_accepted}
+
+accepts : (r : Answer) → is_ok r ≡ true → r ≡ Ok tt
+accepts (Ok _) e = refl
+accepts (Err _) e = let z : ◌≡◌ {A = ℕ} 0 1 = cc in absurd (omega arith)
+
+-- what an accepted entry does to a balance and to an issue
+pub step_balance : (m : Meaning) (e : Instruction) → instruction_answer m e ≡ Ok tt → (a s : ℕ) → (after_instruction m e).balance a s ≡ apply e a s (m.balance a s)
+step_balance m (Credit to of amount) ok a s = ap (λ r. (unless_refused r (with_credit m to of amount) m).balance a s) (accepted_none (credit_refused m to of amount) (sym ok))
+step_balance m (Move giver taker of amount) ok a s = ap (λ r. (unless_refused r (with_move m giver taker of amount) m).balance a s) (accepted_none (transfer_refused m giver taker of amount) (sym ok))
+
+pub step_issue : (m : Meaning) (e : Instruction) → instruction_answer m e ≡ Ok tt → (s : ℕ) → (after_instruction m e).issue s ≡ m.issue s + added e s
+step_issue m (Credit to of amount) ok s =
+    let raised : (with_credit m to of amount).issue s ≡ m.issue s + added (Credit to of amount) s = grind (arith, nat_tests) in
+    ap (λ r. (unless_refused r (with_credit m to of amount) m).issue s) (accepted_none (credit_refused m to of amount) (sym ok)) ∙ raised
+step_issue m (Move giver taker of amount) ok s =
+    let same : m.issue s ≡ m.issue s + 0 = omega arith in
+    ap (λ r. (unless_refused r (with_move m giver taker of amount) m).issue s) (accepted_none (transfer_refused m giver taker of amount) (sym ok)) ∙ same
+
+-- the entry at a place is accepted after those before it
+pub in_turn : (m : Meaning) (es : List Instruction) (i : ℕ) (d : Instruction) → each_accepted m es ≡ true → i < length es → instruction_answer (after_all m (take i es)) (get_or es i d) ≡ Ok tt
+in_turn m [] i d fit h = absurd (omega arith)
+in_turn m (e ∷ es) zero d fit h = accepts (instruction_answer m e) (and_parts (is_ok (instruction_answer m e)) (each_accepted (after_instruction m e) es) fit).0
+in_turn m (e ∷ es) (suc i) d fit h = in_turn (after_instruction m e) es i d (and_parts (is_ok (instruction_answer m e)) (each_accepted (after_instruction m e) es) fit).1 (omega arith)
+
+-- one entry more
+pub accepted_push : (m : Meaning) (es : List Instruction) (e : Instruction) → each_accepted m es ≡ true → instruction_answer (after_all m es) e ≡ Ok tt → each_accepted m (es ++ e ∷ []) ≡ true
+accepted_push m [] e fit ok = and_from _ _ (ap is_ok ok) refl
+accepted_push m (x ∷ es) e fit ok =
+    let parts = and_parts (is_ok (instruction_answer m x)) (each_accepted (after_instruction m x) es) fit in
+    and_from _ _ parts.0 (accepted_push (after_instruction m x) es e parts.1 ok)
+
+-- a register of no account accepts nothing
+accepts_some : (m : Meaning) (e : Instruction) → instruction_answer m e ≡ Ok tt → 0 < m.accounts
+accepts_some m (Credit to of amount) ok = let told = (credit_told m to of amount (accepted_none _ (sym ok))).account_known in omega (arith, told)
+accepts_some m (Move giver taker of amount) ok = let told = (move_told m giver taker of amount (accepted_none _ (sym ok))).giver_known in omega (arith, told)
+
+pub none_accepted : (m : Meaning) (es : List Instruction) → m.accounts ≡ 0 → each_accepted m es ≡ true → es ≡ []
+none_accepted m [] none fit = refl
+none_accepted m (e ∷ es) none fit =
+    let ok = accepts (instruction_answer m e) (and_parts (is_ok (instruction_answer m e)) (each_accepted (after_instruction m e) es) fit).0 in
+    let some = accepts_some m e ok in
+    absurd (omega (arith, none, some))
+
+-- balances of a lawful register are at most the most
+balance_le : (m : Meaning) → Lawful m → (a s : ℕ) → m.balance a s ≤ most
+balance_le m ok a s =
+    ⊎_elim
+    (λ (h : a < m.accounts). let one = at_most_sum (λ k. m.balance k s) m.accounts a h in omega (arith, one, ok.covered s, ok.bounded s))
+    (λ (h : m.accounts ≤ a). let none = ok.no_account a s h in omega (arith, none))
+    (cases_lt a m.accounts)
+
+-- the step from the entries of a day book before a place to those up to it
+module _ (x : DayBook) (es : List Instruction) (all : es ≡ waits x.entries) (i : ℕ) (h : i < length es) where
+  abbrev m : Meaning
+  m = posted_means x
+
+  abbrev e : Instruction
+  e = get_or es i (Credit 0 0 0)
+
+  accepted_then : instruction_answer (after_all m (take i es)) e ≡ Ok tt
+  accepted_then = in_turn m es i (Credit 0 0 0) (ap (each_accepted m) all ∙ x.accepted) h
+
+  lawful_then : Lawful (after_all m (take (i + 1) es))
+  lawful_then = all_lawful m (take (i + 1) es) (posted_lawful x)
+
+  pub next_balance : (a s : ℕ) → (after_all (posted_means x) (take (i + 1) es)).balance a s ≡ apply (get_or es i (Credit 0 0 0)) a s ((after_all (posted_means x) (take i es)).balance a s)
+  next_balance a s = ap (λ (k : Meaning). k.balance a s) (all_more m es i (Credit 0 0 0) h) ∙ step_balance (after_all m (take i es)) e accepted_then a s
+
+  pub next_issue : (s : ℕ) → (after_all (posted_means x) (take (i + 1) es)).issue s ≡ (after_all (posted_means x) (take i es)).issue s + added (get_or es i (Credit 0 0 0)) s
+  next_issue s = ap (λ (k : Meaning). k.issue s) (all_more m es i (Credit 0 0 0) h) ∙ step_issue (after_all m (take i es)) e accepted_then s
+
+  pub next_balance_le : (a s v : ℕ) → v ≡ (after_all (posted_means x) (take i es)).balance a s → apply (get_or es i (Credit 0 0 0)) a s v ≤ most
+  next_balance_le a s v is =
+      let le = balance_le (after_all m (take (i + 1) es)) lawful_then a s in
+      let here = ap (apply e a s) is in
+      omega (arith, le, next_balance a s, here)
+
+  pub next_issue_le : (s : ℕ) → (after_all (posted_means x) (take i es)).issue s + added (get_or es i (Credit 0 0 0)) s ≤ most
+  next_issue_le s = let le = lawful_then.bounded s in omega (arith, le, next_issue s)
