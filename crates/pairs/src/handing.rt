@@ -1,8 +1,8 @@
 // What the end of the notices gives: each seller's unnotified contracts, to one asset.
-ghost use Rattle.std.specs.Prelude.{◌≡◌, ◌+◌, ◌-◌, ◌<◌, ◌≤◌, length, if◌then◌else◌, slice_index};
+ghost use Rattle.std.specs.Prelude.{◌≡◌, ℕ, ◌+◌, ◌-◌, ◌<◌, ◌≤◌, length, if◌then◌else◌, slice_index};
 ghost use Rattle.book.specs.Limits.{most_assets};
 ghost use Rattle.book.specs.Books.{sells, volume};
-ghost use Rattle.pairs.specs.Records.{in_lots, raised, filled, handed_from};
+ghost use Rattle.pairs.specs.Records.{in_lots, filled, handed_from};
 
 use crate::lots::SellerLots;
 use book::records::Holder;
@@ -10,44 +10,23 @@ use book::records::Holder;
 // The contracts of so many that stand in no lot of the record yet.
 fn unnotified(r: &SellerLots, assets: u8, volume: u32) -> u32
     requires { assets ≤ most_assets }
-    ensures { result ≡ volume - in_lots assets r.now }
+    ensures what_no_lot_has { result ≡ volume - in_lots assets r.now }
+    ensures each_lot_has_room { (asset : ℕ) → asset < assets → 0 < result → slice_index r.now.lots asset + result ≤ volume }
 {
-    let mut left = volume;
-    for asset in 0..assets {
-        left = left.saturating_sub(r.lots[asset as usize]);
-    }
-    left
-}
-
-// A lot of the record, raised by the rest where it is the one for asset `first`.
-fn raise(r: &SellerLots, asset: u8, first: u8, rest: u32) -> u32
-    requires { (asset < most_assets) × ((0 < rest → slice_index r.now.lots first + rest < 4294967296)) }
-    ensures { result ≡ raised r.now first rest asset }
-{
-    let lot = r.lots[asset as usize];
-    if asset == first && rest > 0 {
-        lot + rest
-    } else {
-        lot
-    }
+    r.lots[..usize::from(assets)]
+        .iter()
+        .fold(volume, |left, lot| left.saturating_sub(*lot))
 }
 
 // The record of a seller with all of its contracts notified: those in no lot yet go into the one for asset `first`.
-fn fill(r: SellerLots, assets: u8, first: u8, volume: u32) -> SellerLots
+fn fill(mut r: SellerLots, assets: u8, first: u8, volume: u32) -> SellerLots
     requires { (assets ≤ most_assets) × (first < assets) }
     ensures { result ≡ filled assets first volume r }
 {
     let rest = unnotified(&r, assets, volume);
-    let lots = [
-        raise(&r, 0, first, rest),
-        raise(&r, 1, first, rest),
-        raise(&r, 2, first, rest),
-        raise(&r, 3, first, rest),
-    ];
-    SellerLots {
-        lots,
-        notified: volume,
-    }
+    r.lots[usize::from(first)] += rest;
+    r.notified = volume;
+    r
 }
 
 // A holder's record after the end of the notices.
@@ -68,7 +47,7 @@ pub(crate) fn hand_rows(holders: &[Holder], assets: u8, first: u8, records: &mut
     requires room { length holders.now ≤ length records.old }
     ensures { records.new ≡ handed_from assets first holders.now records.old }
 {
-    for i in 0..holders.len() {
-        records[i] = hand_one(holders[i], records[i], assets, first);
+    for (i, h) in holders.iter().enumerate() {
+        records[i] = hand_one(*h, records[i], assets, first);
     }
 }

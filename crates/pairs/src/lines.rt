@@ -1,6 +1,6 @@
 // The lines that pairs make of the sellers' lots.
-ghost use Rattle.std.specs.Prelude.{◌≡◌, ◌+◌, ◌-◌, ◌*◌, ◌<◌, ◌≤◌, [], length, take, drop, if◌then◌else◌};
-ghost use Rattle.std.specs.List.{AllByRecursion};
+ghost use Rattle.std.specs.Prelude.{◌≡◌, ◌+◌, ◌-◌, ◌*◌, ◌<◌, ◌≤◌, [], length, map, take, drop};
+ghost use Rattle.std.specs.List.{AllByRecursion, fold, filter};
 ghost use Rattle.book.specs.Limits.{most_assets, most_holders};
 ghost use Rattle.pairing.specs.Laws.{places_a_holder};
 ghost use Rattle.pairing.specs.Lines.{total, of_seller, add_line, fresh, lines_of_pair, lines_of_pairs};
@@ -10,49 +10,55 @@ use crate::lots::SellerLots;
 use pairing::line::Line;
 use pairing::pair::Pair;
 
+// The row of the holder at a place.
+fn row_of(place: usize) -> u16
+    requires { place < most_holders }
+    ensures { result ≡ place + 1 }
+{
+    // the cast loses nothing, as the proof knows; `try_from` would need a branch that is never taken
+    (place + 1) as u16
+}
+
 // The lot of the holder at a place for an asset; nothing where there is no record.
 fn lot_of(lots: &[SellerLots], place: usize, asset: u8) -> u32
     requires { asset < most_assets }
     ensures { result ≡ held lots.now place asset }
 {
-    if place < lots.len() {
-        lots[place].lots[asset as usize]
-    } else {
-        0
-    }
+    lots.get(place).map_or(0, |r| r.lots[usize::from(asset)])
 }
 
-// The contracts of a line that count against the lot of the seller in a row for an asset.
-fn counted(l: &Line, row: u16, asset: u8) -> u32
-    ensures { result ≡ (if of_seller row asset l.now then l.now.contracts else 0) }
+// Whether a line counts against the lot of the seller in a row for an asset.
+fn counts(l: &Line, row: u16, asset: u8) -> bool
+    ensures { result ≡ of_seller row asset l.now }
 {
-    if l.seller == row && l.asset == asset {
-        l.contracts
-    } else {
-        0
-    }
+    l.seller == row && l.asset == asset
 }
 
 // What lines leave of a lot of the seller in a row for an asset.
 fn less_lines(lot: u32, lines: &[Line], row: u16, asset: u8) -> u32
-    ensures { result ≡ lot - total (of_seller row asset) (λ l. l.contracts) lines.now }
+    ensures { result ≡ fold (λ left n. left - n) lot (map (λ l. l.contracts) (filter (of_seller row asset) lines.now)) }
 {
-    let mut left = lot;
-    for l in lines {
-        left = left.saturating_sub(counted(l, row, asset));
-    }
-    left
+    lines
+        .iter()
+        .filter(|l| counts(l, row, asset))
+        .map(|l| l.contracts)
+        .fold(lot, |left, contracts| left.saturating_sub(contracts))
 }
 
 // What the first lines leave of the lot of the seller at a place for an asset.
+#[tactic(auto, using(crate::proofs::WrittenLines::less_each))]
 fn left_of(lots: &[SellerLots], lines: &[Line], count: usize, seller: usize, asset: u8) -> u32
     requires few_assets { asset < most_assets }
     requires near { seller < most_holders }
     requires room { count ≤ length lines.now }
     ensures { result ≡ held lots.now seller asset - total (of_seller (seller + 1) asset) (λ l. l.contracts) (take count lines.now) }
 {
-    let row = (seller + 1) as u16;
-    less_lines(lot_of(lots, seller, asset), &lines[0..count], row, asset)
+    less_lines(
+        lot_of(lots, seller, asset),
+        &lines[..count],
+        row_of(seller),
+        asset,
+    )
 }
 
 // A line of a pair in an asset, with nothing taken yet.
@@ -60,12 +66,10 @@ fn fresh_line(p: Pair, asset: u8, contracts: u32) -> Line
     requires { (p.buyer < most_holders) × (p.seller < most_holders) }
     ensures { result ≡ fresh p asset contracts }
 {
-    let buyer = (p.buyer + 1) as u16;
-    let seller = (p.seller + 1) as u16;
     Line {
         stage: p.stage,
-        buyer,
-        seller,
+        buyer: row_of(p.buyer),
+        seller: row_of(p.seller),
         asset,
         contracts,
         taken: 0,

@@ -1,7 +1,7 @@
 // What each seller has notified.
 
-// A book has at most 4 deliverable assets, and a record a place for each.
-pub const MOST_ASSETS: usize = 4;
+// A record has a place for each deliverable asset that a book can have.
+pub use book::limits::MOST_ASSETS;
 
 // The lots of one holder by asset, and the contracts notified in them. A buyer's stay 0.
 #[derive(Clone, Copy)]

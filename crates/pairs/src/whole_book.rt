@@ -11,8 +11,9 @@ use crate::deliverables::first_deliverable;
 use crate::fault::PairingFault;
 use crate::handing::hand_rows;
 use crate::lots::SellerLots;
-use crate::rows::{MOST_HOLDERS, lines_of_rows};
+use crate::rows::lines_of_rows;
 use book::book::Book;
+use book::limits::MOST_HOLDERS;
 use pairing::line::Line;
 
 // The places that a table of lines needs for each holder: there are fewer pairs than holders, and a pair has at most a

@@ -1,8 +1,16 @@
-use Rattle.std.proofs.Common.{arith}
-use Rattle.pairs.proofs.HandedLots.{row_more}
+use Rattle.std.proofs.Common.{rules, ◌≡◌, ℕ, ◌-◌, length, take, ◌∙◌, arith}
+use Rattle.std.specs.List.{fold}
+use Rattle.pairs.specs.Records.{in_lots}
+use Rattle.pairs.proofs.HandedLots.{less_lots, rest_fits}
 use Rattle.pairs.proofs.handing.unnotified.Goals as goal
 
-pub loop-asset-preserved : goal.loop-asset-preserved
-loop-asset-preserved c =
-    let more = row_more 0 c.loop-asset.asset c.args.assets c.args.r.now.lots (omega arith) in
-    omega (arith, more, c.saturating_sub-left.ensures, c.loop-asset.invariant)
+pub returns : goal.returns
+returns c =
+    let lots = c.args.r.now.lots in
+    let long : length lots ≡ 4 = search rules in
+    let e : c.fold.result ≡ fold (λ (left lot : ℕ). left - lot) c.args.volume (take c.args.assets lots) = search rules in
+    let left : c.fold.result ≡ c.args.volume - in_lots c.args.assets c.args.r.now = e ∙ less_lots c.args.assets 0 c.args.volume lots (omega arith) in
+    record {
+      what_no_lot_has = left;
+      each_lot_has_room = λ asset h some. rest_fits c.args.assets asset c.args.volume c.fold.result c.args.r.now h left some;
+    }
