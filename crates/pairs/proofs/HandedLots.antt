@@ -1,9 +1,9 @@
 -- What the records hold after the unnotified contracts were handed out.
-use Rattle.std.proofs.Common.{◌≡◌, ℕ, zero, suc, ◌+◌, ◌-◌, ◌<◌, ◌≤◌, Bool, true, false, cond, ◌&&◌, eqb, List, [], ◌∷◌, ◌++◌, length, get_or, take, drop, set, sum_by, sym, refl, ap, ◌∙◌, subst, ⊎_elim, append_assoc, add-one, arith}
+use Rattle.std.proofs.Common.{◌≡◌, ℕ, zero, suc, ◌+◌, ◌-◌, ◌<◌, ◌≤◌, Bool, true, false, cond, ◌&&◌, eqb, List, [], ◌∷◌, ◌++◌, length, get_or, take, drop, sum_by, sym, refl, ap, ◌∙◌, subst, ⊎_elim, add-one, arith}
 use Rattle.std.specs.List.{fold}
 use Rattle.std.proofs.lemmas.List.Sums.{sum_by-cons, sum_by-append}
 use Rattle.std.proofs.lemmas.Bool.{cases_eq, eq-eqb, ne_eqb}
-use Rattle.std.proofs.lemmas.List.{take_more_set, drop-set-lt, drop_more}
+use Rattle.std.proofs.lemmas.List.{drop_more}
 use Rattle.book.specs.declared.records.Holder.{Holder}
 use Rattle.book.specs.Books.{nobody, sells, volume}
 use Rattle.pairing.specs.Lines.{Lot, lot, unnotified, added_from}
@@ -40,19 +40,6 @@ pub rest_fits : (n a volume rest : ℕ) (x : SellerLots) → a < n → rest ≡ 
 rest_fits n a volume rest x h e some =
     let one : get_or x.lots a 0 ≤ in_lots n x = one_in_row 0 a 0 n x.lots (omega arith) (omega arith) in
     omega (arith, one)
-
--- One record more.
-pub handed_more : (n a i : ℕ) (hs : List Holder) (xs : List SellerLots) (y : SellerLots) → i < length hs → i < length xs
-    → y ≡ cond (sells (get_or hs i nobody)) (filled n a (volume (get_or hs i nobody)) (get_or xs i no_lots)) (get_or xs i no_lots)
-    → take (i + 1) (set xs i y) ++ handed_from n a (drop (i + 1) hs) (drop (i + 1) (set xs i y)) ≡ take i xs ++ handed_from n a (drop i hs) (drop i xs)
-handed_more n a i hs xs y hi xi e =
-    let rest = handed_from n a (drop (i + 1) hs) (drop (i + 1) xs) in
-    ap (λ (l : List SellerLots). l ++ handed_from n a (drop (i + 1) hs) (drop (i + 1) (set xs i y))) (take_more_set xs i y xi)
-    ∙ ap (λ (l : List SellerLots). (take i xs ++ y ∷ []) ++ handed_from n a (drop (i + 1) hs) l) (drop-set-lt (i + 1) xs i y (omega arith))
-    ∙ append_assoc (take i xs) (y ∷ []) rest
-    ∙ ap (λ (z : SellerLots). take i xs ++ (z ∷ rest)) e
-    ∙ sym (ap (λ (l : List Holder). take i xs ++ handed_from n a l (drop i xs)) (drop_more hs i nobody hi)
-    ∙ ap (λ (l : List SellerLots). take i xs ++ handed_from n a (get_or hs i nobody ∷ drop (i + 1) hs) l) (drop_more xs i no_lots xi))
 
 -- ---- what the records mean
 

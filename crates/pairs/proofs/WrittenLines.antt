@@ -11,9 +11,9 @@ use Rattle.pairing.specs.Lines.{Lot, lot, total, of_seller, left, add_line, fres
 use Rattle.pairs.specs.declared.lots.SellerLots.{SellerLots}
 use Rattle.pairs.specs.Records.{held, row_lots, lots_from}
 
--- What stands where a table has no line.
-abbrev pub no_line : Line
-no_line = record { stage = Member; buyer = 0; seller = 0; asset = 0; contracts = 0; taken = 0; settled = 0; returned = 0 }
+-- What stands where a table has no pair.
+abbrev pub no_pair : Pair
+no_pair = record { stage = Member; buyer = 0; seller = 0; contracts = 0 }
 
 -- ---- the lots that records hold
 
@@ -132,7 +132,3 @@ pub pairs_more : (lots : List Lot) (K i : ℕ) (ps : List Pair) (d : Pair) (ls r
     → lines_of_pairs lots K (drop (i + 1) ps) rs ≡ lines_of_pairs lots K (drop i ps) ls
 pairs_more lots K i ps d ls rs h e =
     ap (lines_of_pairs lots K (drop (i + 1) ps)) e ∙ ap (λ qs. lines_of_pairs lots K qs ls) (sym (drop_more ps i d h))
-
--- What stands where a table has no pair.
-abbrev pub no_pair : Pair
-no_pair = record { stage = Member; buyer = 0; seller = 0; contracts = 0 }

@@ -1,10 +1,10 @@
 // The first deliverable of a book.
-ghost use Rattle.std.specs.Prelude.{◌≡◌, ◌<◌, ◌≤◌, true, length, IfSome};
+ghost use Rattle.std.specs.Prelude.{◌≡◌, ◌<◌, ◌≤◌, true, length, IfSome, IfNone};
 ghost use Rattle.book.specs.Limits.{most_assets};
-ghost use Rattle.order.specs.First.{first, place_of};
+ghost use Rattle.order.specs.First.{first};
 ghost use Rattle.book.specs.Books.{invoice_of};
 ghost use Rattle.book.specs.Data.{contents};
-ghost use Rattle.pairing.specs.Orders.{deliverable_leq, deliverables, first_deliverable};
+ghost use Rattle.pairing.specs.Orders.{deliverable_leq, deliverables, place_or_0, first_deliverable};
 
 use book::book::Book;
 use book::limits::MOST_ASSETS;
@@ -12,7 +12,8 @@ use book::records::Asset;
 use order::first_open;
 use pairing::deliverable::Deliverable;
 
-// What stands in a place of the table of deliverables that is not used.
+// What stands in a place of the table of deliverables that is not used. (An `ArrayVec` has no such places, but asks
+// `Default` of its records, which those of `pairing` do not have.)
 const NO_DELIVERABLE: Deliverable = Deliverable {
     asset: 0,
     market: 0,
@@ -35,6 +36,7 @@ fn list_all(price: u32, assets: &[Asset], out: &mut [Deliverable])
     requires { (length out.old ≡ length assets.now) × (length assets.now ≤ most_assets) }
     ensures { out.new ≡ deliverables price 0 assets.now }
 {
+    // by index: of what is written through a zip with `iter_mut` a proof knows nothing
     for (i, x) in assets.iter().enumerate() {
         out[i] = deliverable(price, i as u8, x);
     }
@@ -43,8 +45,9 @@ fn list_all(price: u32, assets: &[Asset], out: &mut [Deliverable])
 // The number of the first deliverable; none where there is no asset.
 fn first_of(price: u32, assets: &[Asset]) -> Option<usize>
     requires { length assets.now ≤ most_assets }
+    ensures none_of_none { IfNone result (length assets.now ≡ 0) }
     ensures within { IfSome result (λ asset. asset < length assets.now) }
-    ensures value { result ≡ place_of (first deliverable_leq (λ _. true) (deliverables price 0 assets.now)) }
+    ensures value { IfSome result (λ asset. asset ≡ place_or_0 (first deliverable_leq (λ _. true) (deliverables price 0 assets.now))) }
 {
     let mut table = [NO_DELIVERABLE; MOST_ASSETS];
     let list = &mut table[..assets.len()];
@@ -52,9 +55,11 @@ fn first_of(price: u32, assets: &[Asset]) -> Option<usize>
     first_open(list)
 }
 
-// The number of the first deliverable; 0 where the book is empty.
-pub fn first_deliverable(book: &Book) -> u8
-    ensures value { result ≡ first_deliverable (contents book.now) }
+// The number of the first deliverable; none where the book is empty.
+pub(crate) fn first_deliverable(book: &Book) -> Option<usize>
+    ensures none_of_none { IfNone result (length (contents book.now).assets ≡ 0) }
+    ensures within { IfSome result (λ asset. asset < length (contents book.now).assets) }
+    ensures value { IfSome result (λ asset. asset ≡ first_deliverable (contents book.now)) }
 {
-    first_of(book.terms().price, book.assets()).map_or(0, |asset| asset as u8)
+    first_of(book.terms().price, book.assets())
 }

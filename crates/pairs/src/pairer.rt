@@ -15,7 +15,8 @@ use pairing::pair::{Pair, Unpaired};
 use pairing::stage::{Group, Stage};
 use std::marker::Model;
 
-// What stands in the places of the tables that are not used.
+// What stands in the places of the tables that are not used. (An `ArrayVec` has no such places, but asks `Default` of
+// its records, which those of `pairing` do not have, and a copy of one is a `Result`.)
 const NO_HOLDER: Unpaired = Unpaired {
     member: 0,
     number: 0,
@@ -41,7 +42,7 @@ fn lower_both(holders: &mut [Unpaired], p: Pair)
     holders[p.seller].volume -= p.contracts;
 }
 
-// A holder with all of its contracts unpaired.
+// A holder with all of its contracts unpaired. (`From` would have to stand beside the type, in `pairing`.)
 fn unpaired_one(h: Holder) -> Unpaired
     ensures { result ≡ unpaired h }
 {
@@ -62,6 +63,7 @@ fn unpaired_all(holders: &[Holder]) -> [Unpaired; MOST_HOLDERS]
     ensures whole_table { length result ≡ most_holders }
 {
     let mut table = [NO_HOLDER; MOST_HOLDERS];
+    // by index: of what is written through a zip with `iter_mut` a proof knows nothing
     for (i, h) in holders.iter().enumerate() {
         table[i] = unpaired_one(*h);
     }
@@ -193,6 +195,7 @@ impl Pairer {
     pub(crate) fn pair_all(&mut self)
         ensures { self.new ≡ and_then self.old (in_groups all_groups) }
     {
+        // three calls and no loop over the stages, since each goes up to a number of its own
         self.pair_stage(Stage::Member, MOST_MEMBER);
         self.pair_stage(Stage::Clearing, MOST_MEMBER);
         self.pair_stage(Stage::Agent, u16::from(MOST_AGENT));

@@ -35,7 +35,8 @@ pub(crate) fn has_group(holders: &[Unpaired], group: Group) -> bool
         .any(|h| key_of(h, group.stage) == group.number)
 }
 
-// An open holder of the group on this side.
+// An open holder of the group on this side. (A side is the flag `buys` that a holder has: an enum would only be turned
+// into that flag again, here and in the rule's definition.)
 fn stands_in(h: &Unpaired, group: Group, buys: bool) -> bool
     ensures { result ≡ side_in group buys h.now }
 {

@@ -18,8 +18,7 @@ add_pairs-requires c =
     let same = rows_length c.args.holders.now in
     let Near : List Pair → Type 0 = λ ps. AllByRecursion (λ (p : Pair). (p.buyer < 256) × (p.seller < 256)) ps in
     record {
-      few_assets = c.requires.few.1;
-      near = subst Near (sym is) (pairs_near all_groups hs 256 (omega (arith, same, c.requires.few.0)));
+      near = subst Near (sym is) (pairs_near all_groups hs 256 (omega (arith, same, c.requires.few)));
       room = omega (arith, ap length is, pairs_few all_groups hs, same, c.requires.room);
     }
 
