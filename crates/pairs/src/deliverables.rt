@@ -38,7 +38,7 @@ fn list_all(price: u32, assets: &[Asset], out: &mut [Deliverable])
 {
     // by index: of what is written through a zip with `iter_mut` a proof knows nothing
     for (i, x) in assets.iter().enumerate() {
-        out[i] = deliverable(price, i as u8, x);
+        out[i] = deliverable(price, i as u8, x); // the cast loses nothing: there are at most four
     }
 }
 

@@ -49,7 +49,8 @@ impl<'a> Lots<'a> {
     }
 }
 
-// The lines written so far, in the first places of a caller's table.
+// The lines written so far, in the first places of a caller's table: they go where the caller keeps them, with no memory
+// of their own.
 #[derive(Drop)]
 struct Written<'a> {
     table: &'a mut [Line],

@@ -32,6 +32,7 @@ fn pair_book(book: &Book, lots: &[SellerLots], lines: &mut [Line]) -> Result<usi
     }
     let lots = Lots {
         records: lots,
+        // a book has at most four assets, so that the cast loses nothing
         assets: book.assets().len() as u8,
     };
     Ok(lines_of_rows(holders, &lots, lines))
