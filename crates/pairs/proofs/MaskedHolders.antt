@@ -20,12 +20,6 @@ open_masked false h e = absurd (true≢false (sym e))
 
 -- The first open record among the masked holders is the first of those that pass, where only open holders pass.
 module _ (P : Unpaired → Bool) (sound : (h : Unpaired) → P h ≡ true → holder_open h ≡ true) (hs : List Unpaired) where
-  M : Unpaired → Unpaired
-  M h = masked (P h) h
-
-  ms : List Unpaired
-  ms = map (λ h. masked (P h) h) hs
-
   masked_at : (k : ℕ) → k < length hs → get_or (map (λ h. masked (P h) h) hs) k no_holder ≡ masked (P (at hs k)) (at hs k)
   masked_at k h = get_or-map (λ x. masked (P x) x) hs k no_holder no_holder h
 

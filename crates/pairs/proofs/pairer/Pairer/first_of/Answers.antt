@@ -1,14 +1,10 @@
-use Rattle.std.proofs.Common.{◌≡◌, Bool, List, map, sym, subst, arith}
-use Rattle.std.proofs.lemmas.List.{length-take-le}
+use Rattle.std.proofs.Common.{◌≡◌, Bool, List, map, subst}
 use Rattle.order.specs.First.{FirstOpen, first, place_of}
 use Rattle.pairing.specs.declared.pair.Unpaired.{Unpaired}
 use Rattle.pairing.specs.Orders.{holder_leq, holder_open}
 use Rattle.pairs.specs.Search.{passes, masked}
 use Rattle.pairs.proofs.MaskedHolders.{masked_first, passes_open}
 use Rattle.pairs.proofs.pairer.Pairer.first_of.Goals as goal
-
-pub slice_bounds-standing-end : goal.slice_bounds-standing-end
-slice_bounds-standing-end c = sym (length-take-le c.self.inside.count c.self.inside.holders (omega (arith, c.self.invariant)))
 
 pub returns-clause-value : goal.returns-clause-value
 returns-clause-value c =
