@@ -1,8 +1,9 @@
 -- What the records hold after the unnotified contracts were handed out.
-use Rattle.std.proofs.Common.{◌≡◌, ℕ, zero, suc, ◌+◌, ◌-◌, ◌<◌, ◌≤◌, Bool, true, false, cond, ◌&&◌, eqb, List, [], ◌∷◌, ◌++◌, length, get_or, take, drop, set, sum_by, sym, refl, ap, ◌∙◌, subst, ⊎_elim, append_assoc, add-one, arith}
+use Rattle.std.proofs.Common.{◌≡◌, ℕ, zero, suc, ◌+◌, ◌-◌, ◌<◌, ◌≤◌, Bool, true, false, cond, ◌&&◌, eqb, List, [], ◌∷◌, ◌++◌, length, get_or, take, drop, sum_by, sym, refl, ap, ◌∙◌, subst, ⊎_elim, add-one, arith}
+use Rattle.std.specs.List.{fold}
 use Rattle.std.proofs.lemmas.List.Sums.{sum_by-cons, sum_by-append}
 use Rattle.std.proofs.lemmas.Bool.{cases_eq, eq-eqb, ne_eqb}
-use Rattle.std.proofs.lemmas.List.{take_more_set, drop-set-lt, drop_more}
+use Rattle.std.proofs.lemmas.List.{drop_more}
 use Rattle.book.specs.declared.records.Holder.{Holder}
 use Rattle.book.specs.Books.{nobody, sells, volume}
 use Rattle.pairing.specs.Lines.{Lot, lot, unnotified, added_from}
@@ -13,12 +14,16 @@ use Rattle.pairs.specs.Records.{no_lots, held, row_lots, lots_from, in_lots, fil
 abbrev pub contracts_in : List Lot → ℕ
 contracts_in xs = sum_by (λ (x : Lot). x.contracts) xs
 
--- One asset more.
-pub row_more : (row a n : ℕ) (lots : List ℕ) → a < n
-    → contracts_in (row_lots row lots a (n - a)) ≡ get_or lots a 0 + contracts_in (row_lots row lots (a + 1) (n - (a + 1)))
-row_more row a n lots h =
-    let k : n - a ≡ suc (n - (a + 1)) = omega arith in
-    ap (λ j. contracts_in (row_lots row lots a j)) k ∙ sum_by-cons (λ (x : Lot). x.contracts) (record { row = row; asset = a; contracts = get_or lots a 0 }) (row_lots row lots (a + 1) (n - (a + 1)))
+-- The lots taken off one after the other, or all at once.
+pub less_lots : (n a v : ℕ) (lots : List ℕ) → a + n ≤ length lots
+    → fold (λ (left lot : ℕ). left - lot) v (take n (drop a lots)) ≡ v - contracts_in (row_lots 0 lots a n)
+less_lots zero a v lots h = omega arith
+less_lots (suc n) a v lots h =
+    let x = get_or lots a 0 in
+    let c = sum_by-cons (λ (l : Lot). l.contracts) (record { row = 0; asset = a; contracts = x }) (row_lots 0 lots (a + 1) n) in
+    let d = ap (λ (xs : List ℕ). fold (λ (left lot : ℕ). left - lot) v (take (suc n) xs)) (drop_more lots a 0 (omega arith)) in
+    let ih = less_lots n (a + 1) (v - x) lots (omega arith) in
+    omega (arith, c, d, ih)
 
 -- Each lot is one of them.
 pub one_in_row : (row a from n : ℕ) (lots : List ℕ) → from ≤ a → a < from + n → get_or lots a 0 ≤ contracts_in (row_lots row lots from n)
@@ -31,23 +36,10 @@ one_in_row row a from (suc n) lots low high =
     (cases_eq from a)
 
 -- A lot with the rest added to it is no more than the volume.
-pub rest_fits : (n a volume rest : ℕ) (x : SellerLots) → a < n → volume < 4294967296 → rest ≡ volume - in_lots n x → 0 < rest → get_or x.lots a 0 + rest < 4294967296
-rest_fits n a volume rest x h v e some =
+pub rest_fits : (n a volume rest : ℕ) (x : SellerLots) → a < n → rest ≡ volume - in_lots n x → 0 < rest → get_or x.lots a 0 + rest ≤ volume
+rest_fits n a volume rest x h e some =
     let one : get_or x.lots a 0 ≤ in_lots n x = one_in_row 0 a 0 n x.lots (omega arith) (omega arith) in
     omega (arith, one)
-
--- One record more.
-pub handed_more : (n a i : ℕ) (hs : List Holder) (xs : List SellerLots) (y : SellerLots) → i < length hs → i < length xs
-    → y ≡ cond (sells (get_or hs i nobody)) (filled n a (volume (get_or hs i nobody)) (get_or xs i no_lots)) (get_or xs i no_lots)
-    → take (i + 1) (set xs i y) ++ handed_from n a (drop (i + 1) hs) (drop (i + 1) (set xs i y)) ≡ take i xs ++ handed_from n a (drop i hs) (drop i xs)
-handed_more n a i hs xs y hi xi e =
-    let rest = handed_from n a (drop (i + 1) hs) (drop (i + 1) xs) in
-    ap (λ (l : List SellerLots). l ++ handed_from n a (drop (i + 1) hs) (drop (i + 1) (set xs i y))) (take_more_set xs i y xi)
-    ∙ ap (λ (l : List SellerLots). (take i xs ++ y ∷ []) ++ handed_from n a (drop (i + 1) hs) l) (drop-set-lt (i + 1) xs i y (omega arith))
-    ∙ append_assoc (take i xs) (y ∷ []) rest
-    ∙ ap (λ (z : SellerLots). take i xs ++ (z ∷ rest)) e
-    ∙ sym (ap (λ (l : List Holder). take i xs ++ handed_from n a l (drop i xs)) (drop_more hs i nobody hi)
-    ∙ ap (λ (l : List SellerLots). take i xs ++ handed_from n a (get_or hs i nobody ∷ drop (i + 1) hs) l) (drop_more xs i no_lots xi))
 
 -- ---- what the records mean
 

@@ -1,6 +1,6 @@
 -- The first holder that stands for the next pair is the first open one of the masked holders.
-use Rattle.std.proofs.Common.{◌≡◌, ℕ, ◌<◌, min, Bool, true, false, not, eqb, List, map, length, get_or, IfSome, Some, None, Option, sym, refl, ap, ◌∙◌, arith}
-use Rattle.std.proofs.lemmas.List.{get_or-map, length-map}
+use Rattle.std.proofs.Common.{◌≡◌, ℕ, ◌+◌, ◌<◌, min, Bool, true, false, not, eqb, List, [], ◌∷◌, ◌++◌, map, length, get_or, take, drop, set, IfSome, Some, None, Option, sym, refl, ap, ◌∙◌, arith}
+use Rattle.std.proofs.lemmas.List.{get_or-map, length-map, drop_more, take_more_set, map_more, drop-set-lt}
 use Rattle.std.proofs.lemmas.Bool.{true≢false, and_parts}
 use Rattle.order.specs.First.{FirstOpen, first, place_of}
 use Rattle.pairing.specs.declared.pair.Unpaired.{Unpaired}
@@ -9,6 +9,8 @@ use Rattle.pairing.specs.declared.stage.Stage.{Stage}
 use Rattle.pairing.specs.Orders.{holder_leq, holder_open}
 use Rattle.pairing.specs.Pairing.{key, no_holder, side_in, on_side, pair_of}
 use Rattle.pairing.specs.InWords.{at}
+use Rattle.pairs.specs.declared.search.Choice.{Choice}
+use Rattle.pairs.specs.declared.search.Choice.TheVariants.{EqualVolumes, Firsts}
 use Rattle.pairs.specs.Search.{passes, masked}
 use Rattle.order.proofs.FirstIs.{first_is, none_passes, first_some}
 
@@ -18,12 +20,6 @@ open_masked false h e = absurd (true≢false (sym e))
 
 -- The first open record among the masked holders is the first of those that pass, where only open holders pass.
 module _ (P : Unpaired → Bool) (sound : (h : Unpaired) → P h ≡ true → holder_open h ≡ true) (hs : List Unpaired) where
-  M : Unpaired → Unpaired
-  M h = masked (P h) h
-
-  ms : List Unpaired
-  ms = map (λ h. masked (P h) h) hs
-
   masked_at : (k : ℕ) → k < length hs → get_or (map (λ h. masked (P h) h) hs) k no_holder ≡ masked (P (at hs k)) (at hs k)
   masked_at k h = get_or-map (λ x. masked (P x) x) hs k no_holder no_holder h
 
@@ -49,6 +45,22 @@ module _ (P : Unpaired → Bool) (sound : (h : Unpaired) → P h ≡ true → ho
       (λ k h p. let kh : k < length hs = omega (arith, in_b, h) in
       sym (ap (λ x. holder_leq x (at hs b)) (same_at k kh p)) ∙ sym (ap (holder_leq (get_or (map (λ x. masked (P x) x) hs) k no_holder)) eb) ∙ f.earliest k no_holder h (open_at k kh p))))
 
+-- One holder more is masked.
+pub mask_more : (P : Unpaired → Bool) (hs ms : List Unpaired) (i : ℕ) (y : Unpaired) → length ms ≡ length hs → i < length ms
+    → y ≡ masked (P (get_or ms i no_holder)) (get_or ms i no_holder)
+    → take i ms ≡ map (λ h. masked (P h) h) (take i hs) → drop i ms ≡ drop i hs
+    → (take (i + 1) (set ms i y) ≡ map (λ h. masked (P h) h) (take (i + 1) hs)) × (drop (i + 1) (set ms i y) ≡ drop (i + 1) hs)
+mask_more P hs ms i y long h is front back =
+    let f : Unpaired → Unpaired = λ x. masked (P x) x in
+    let both : get_or ms i no_holder ∷ drop (i + 1) ms ≡ get_or hs i no_holder ∷ drop (i + 1) hs
+    = sym (drop_more ms i no_holder h) ∙ back ∙ drop_more hs i no_holder (omega (arith, h, long)) in
+    let here : get_or ms i no_holder ≡ get_or hs i no_holder = cc in
+    let later : drop (i + 1) ms ≡ drop (i + 1) hs = cc in (
+      take_more_set ms i y h ∙ ap (λ (l : List Unpaired). l ++ y ∷ []) front ∙ ap (λ (x : Unpaired). map f (take i hs) ++ x ∷ []) (is ∙ ap f here)
+          ∙ sym (map_more f hs i no_holder (omega (arith, h, long))),
+      drop-set-lt (i + 1) ms i y (omega arith) ∙ later,
+    )
+
 pub first_open_found : {X : Type 0} (leq : X → X → Bool) (is_open : X → Bool) (xs : List X) (r : Option ℕ) → FirstOpen leq is_open xs r → IfSome r (λ b. b < length xs)
 first_open_found leq is_open xs None f = tt
 first_open_found leq is_open xs (Some b) f = f.within
@@ -56,9 +68,9 @@ first_open_found leq is_open xs (Some b) f = f.within
 side_open : (g : Group) (buys : Bool) (h : Unpaired) → side_in g buys h ≡ true → holder_open h ≡ true
 side_open g buys h e = (and_parts (holder_open h) _ (and_parts (eqb (key g.stage h) g.number) _ e).1).0
 
-pub passes_open : (g : Group) (buys equal : Bool) (hs : List Unpaired) (h : Unpaired) → passes g buys equal hs h ≡ true → holder_open h ≡ true
-passes_open g buys true hs h e = side_open g buys h (and_parts (side_in g buys h) (on_side g (not buys) hs h.volume) e).0
-passes_open g buys false hs h e = side_open g buys h e
+pub passes_open : (g : Group) (buys : Bool) (choice : Choice) (hs : List Unpaired) (h : Unpaired) → passes g buys choice hs h ≡ true → holder_open h ≡ true
+passes_open g buys EqualVolumes hs h e = side_open g buys h (and_parts (side_in g buys h) (on_side g (not buys) hs h.volume) e).0
+passes_open g buys Firsts hs h e = side_open g buys h e
 
 pub pair_found : (stage : Stage) (B S : Unpaired → Bool) (hs : List Unpaired) (b s n : ℕ)
     → Some b ≡ place_of (first holder_leq B hs) → Some s ≡ place_of (first holder_leq S hs) → n ≡ min (at hs b).volume (at hs s).volume

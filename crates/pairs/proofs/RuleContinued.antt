@@ -19,6 +19,8 @@ use Rattle.pairing.proofs.PairLaws.{open_le}
 use Rattle.pairing.proofs.LoweredHolders as step
 use Rattle.pairing.proofs.MadePairs.{fair_counts, made_length}
 use Rattle.pairing.proofs.FairPairs.{equal_fair, first_fair, repeats_made}
+use Rattle.pairs.specs.declared.search.Choice.{Choice}
+use Rattle.pairs.specs.declared.search.Choice.TheVariants.{EqualVolumes, Firsts}
 use Rattle.pairs.specs.Search.{occurs, passes, next_pair, Takes, exhaust}
 
 -- ---- and_then
@@ -31,9 +33,9 @@ and_then_none m = ap (λ l. (l, m.1)) (append-nil m.0)
 
 -- ---- the next pair is fair
 
-pub next_fair : (equal : Bool) (g : Group) (hs : List Unpaired) (p : Pair) → next_pair equal g hs ≡ Some p → Fair g hs p
-next_fair true g hs p e = equal_fair g hs p e
-next_fair false g hs p e = first_fair g hs p e
+pub next_fair : (choice : Choice) (g : Group) (hs : List Unpaired) (p : Pair) → next_pair choice g hs ≡ Some p → Fair g hs p
+next_fair EqualVolumes g hs p e = equal_fair g hs p e
+next_fair Firsts g hs p e = first_fair g hs p e
 
 pub fair_takes : {g : Group} {hs : List Unpaired} {p : Pair} → Fair g hs p → Takes hs p
 fair_takes {hs = hs} {p = p} f =
@@ -42,8 +44,8 @@ fair_takes {hs = hs} {p = p} f =
     let H : Unpaired → Type 0 = λ h. p.contracts ≤ h.volume in
     (f.buyer_in, f.seller_in, f.buyer_has, subst H (sym same) f.seller_has)
 
-pub next_falls : (equal : Bool) (g : Group) (hs : List Unpaired) (p : Pair) → next_pair equal g hs ≡ Some p → open_count (paired p hs) + 1 ≤ open_count hs
-next_falls equal g hs p e = (fair_counts (next_fair equal g hs p e)).0
+pub next_falls : (choice : Choice) (g : Group) (hs : List Unpaired) (p : Pair) → next_pair choice g hs ≡ Some p → open_count (paired p hs) + 1 ≤ open_count hs
+next_falls choice g hs p e = (fair_counts (next_fair choice g hs p e)).0
 
 -- ---- one pair after the other
 
@@ -104,7 +106,7 @@ in_group_is g hs =
     let same : length m.1 ≡ length hs = made_length (repeats_made {G = λ _. Unit {0}} g tt (equal_pair g) (λ ks. equal_fair g ks) a) in
     ap (λ n. and_then m (repeat n (first_pair g))) same
 
-pub group_then : (g : Group) (m : Made) → and_then (and_then m (exhaust (next_pair true g))) (exhaust (next_pair false g)) ≡ and_then m (in_group g)
+pub group_then : (g : Group) (m : Made) → and_then (and_then m (exhaust (next_pair EqualVolumes g))) (exhaust (next_pair Firsts g)) ≡ and_then m (in_group g)
 group_then g m = and_then_assoc m (exhaust (equal_pair g)) (exhaust (first_pair g)) ∙ ap (λ (x : Made). (m.0 ++ x.0, x.1)) (in_group_is g m.1)
 
 -- Where no holder is of the group, it has no pair.
@@ -117,17 +119,17 @@ module _ (g : Group) (hs : List Unpaired) (empty : occurs g hs ≡ false) where
   none_side : (t : Bool) (k : ℕ) → k < length hs → side_in g t (at hs k) ≡ false
   none_side t k h = and_left _ _ (not_of k h)
 
-  empty_none : (equal : Bool) → next_pair equal g hs ≡ None
-  empty_none equal = ap (λ o. pair_of g.stage o (first holder_leq (passes g false equal hs) hs)) (none_passes holder_leq (passes g true equal hs) hs no_holder (none equal))
+  empty_none : (choice : Choice) → next_pair choice g hs ≡ None
+  empty_none choice = ap (λ o. pair_of g.stage o (first holder_leq (passes g false choice hs) hs)) (none_passes holder_leq (passes g true choice hs) hs no_holder (none choice))
     where
-      none : (equal : Bool) (k : ℕ) → k < length hs → passes g true equal hs (at hs k) ≡ false
-      none true k h = and_left _ _ (none_side true k h)
-      none false k h = none_side true k h
+      none : (choice : Choice) (k : ℕ) → k < length hs → passes g true choice hs (at hs k) ≡ false
+      none EqualVolumes k h = and_left _ _ (none_side true k h)
+      none Firsts k h = none_side true k h
 
   pub empty_group : in_group g hs ≡ ([], hs)
   empty_group =
-      sym (in_group_is g hs) ∙ ap (λ (m : Made). and_then m (exhaust (first_pair g))) (exhaust_none (equal_pair g) (next_falls true g) hs (empty_none true))
-      ∙ exhaust_none (first_pair g) (next_falls false g) hs (empty_none false)
+      sym (in_group_is g hs) ∙ ap (λ (m : Made). and_then m (exhaust (first_pair g))) (exhaust_none (equal_pair g) (next_falls EqualVolumes g) hs (empty_none EqualVolumes))
+      ∙ exhaust_none (first_pair g) (next_falls Firsts g) hs (empty_none Firsts)
 
 -- ---- group after group
 
@@ -144,28 +146,28 @@ groups_more m g gs = and_then_assoc m (in_group g) (in_groups gs)
 pub groups_over : (m : Made) → m ≡ and_then m (in_groups [])
 groups_over m = sym (and_then_none m)
 
-pub numbered_more : (stage : Stage) (k n : ℕ) → k < n → numbered stage (k + 1) (n - k) ≡ record { stage = stage; number = k + 1 } ∷ numbered stage (k + 1 + 1) (n - (k + 1))
-numbered_more stage k n h = let e : n - k ≡ suc (n - (k + 1)) = omega arith in ap (numbered stage (k + 1)) e
+pub numbered_more : (stage : Stage) (k n : ℕ) → k < n → numbered stage k (n - k) ≡ record { stage = stage; number = k } ∷ numbered stage (k + 1) (n - (k + 1))
+numbered_more stage k n h = let e : n - k ≡ suc (n - (k + 1)) = omega arith in ap (numbered stage k) e
 
 -- All stages, up to the highest number of each.
-pub all_stages : (a b c : ℕ) (hs : List Unpaired)
-    → and_then (and_then (and_then (in_groups (numbered Member 1 a) hs) (in_groups (numbered Clearing 1 b))) (in_groups (numbered Agent 1 c))) (in_group (record { stage = Whole; number = 0 }))
-    ≡ in_groups (stages a b c) hs
+pub all_stages : (a b c : ℕ) (m : Made)
+    → and_then (and_then (and_then (and_then m (in_groups (numbered Member 1 a))) (in_groups (numbered Clearing 1 b))) (in_groups (numbered Agent 1 c))) (in_group (record { stage = Whole; number = 0 }))
+    ≡ and_then m (in_groups (stages a b c))
 unfolding stages
-all_stages a b c hs =
+all_stages a b c m =
     let A = numbered Member 1 a in let B = numbered Clearing 1 b in let C = numbered Agent 1 c in
     let W : List Group = record { stage = Whole; number = 0 } ∷ [] in
-    let m = in_groups A hs in
-    let whole : (x : Made) → and_then x (in_group (record { stage = Whole; number = 0 })) ≡ and_then x (in_groups W)
-    = λ x. groups_over (and_then x (in_group (record { stage = Whole; number = 0 }))) ∙ groups_more x (record { stage = Whole; number = 0 }) [] in
     let more : (x : Made) (gs fs : List Group) → and_then (and_then x (in_groups gs)) (in_groups fs) ≡ and_then x (in_groups (gs ++ fs))
     = λ x gs fs. and_then_assoc x (in_groups gs) (in_groups fs) ∙ sym (ap (λ (y : Made). (x.0 ++ y.0, y.1)) (in_groups_append gs fs x.1)) in
-    whole (and_then (and_then m (in_groups B)) (in_groups C)) ∙ more (and_then m (in_groups B)) C W ∙ more m B (C ++ W) ∙ sym (in_groups_append A (B ++ (C ++ W)) hs)
+    let here = and_then m (in_groups A) in
+    let last = and_then (and_then here (in_groups B)) (in_groups C) in
+    groups_over (and_then last (in_group (record { stage = Whole; number = 0 }))) ∙ groups_more last (record { stage = Whole; number = 0 }) []
+    ∙ more (and_then here (in_groups B)) C W ∙ more here B (C ++ W) ∙ more m A (B ++ (C ++ W))
 
-pub stages_then : (a b c : ℕ) (hs : List Unpaired) (m₁ m₂ m₃ m₄ : Made)
-    → m₁ ≡ and_then ([], hs) (in_groups (numbered Member 1 a)) → m₂ ≡ and_then m₁ (in_groups (numbered Clearing 1 b))
+pub stages_then : (a b c : ℕ) (m m₁ m₂ m₃ m₄ : Made)
+    → m₁ ≡ and_then m (in_groups (numbered Member 1 a)) → m₂ ≡ and_then m₁ (in_groups (numbered Clearing 1 b))
     → m₃ ≡ and_then m₂ (in_groups (numbered Agent 1 c)) → m₄ ≡ and_then m₃ (in_group (record { stage = Whole; number = 0 }))
-    → m₄ ≡ in_groups (stages a b c) hs
-stages_then a b c hs m₁ m₂ m₃ m₄ e₁ e₂ e₃ e₄ =
+    → m₄ ≡ and_then m (in_groups (stages a b c))
+stages_then a b c m m₁ m₂ m₃ m₄ e₁ e₂ e₃ e₄ =
     let W : List Unpaired → Made = in_group (record { stage = Whole; number = 0 }) in
-    e₄ ∙ ap (λ m. and_then m W) (e₃ ∙ ap (λ m. and_then m (in_groups (numbered Agent 1 c))) (e₂ ∙ ap (λ m. and_then m (in_groups (numbered Clearing 1 b))) e₁)) ∙ all_stages a b c hs
+    e₄ ∙ ap (λ x. and_then x W) (e₃ ∙ ap (λ x. and_then x (in_groups (numbered Agent 1 c))) (e₂ ∙ ap (λ x. and_then x (in_groups (numbered Clearing 1 b))) e₁)) ∙ all_stages a b c m

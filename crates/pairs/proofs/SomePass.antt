@@ -1,5 +1,6 @@
 -- Whether any record passes, one record further.
-use Rattle.std.proofs.Common.{◌≡◌, ℕ, ◌+◌, ◌<◌, ◌≤◌, Bool, true, false, ◌||◌, List, length, get_or, drop, ap, ◌∙◌}
+use Rattle.std.proofs.Common.{◌≡◌, ℕ, ◌+◌, ◌<◌, ◌≤◌, Bool, true, false, ◌||◌, List, [], ◌∷◌, length, get_or, drop, refl, ap, ◌∙◌}
+use Rattle.std.specs.List.{list_any}
 use Rattle.std.proofs.lemmas.List.{drop_more, drop_all}
 use Rattle.order.specs.First.{any}
 
@@ -12,3 +13,8 @@ module _ {X : Type 0} (passes : X → Bool) (xs : List X) (i : ℕ) (d : X) wher
 
   pub any_end : length xs ≤ i → any passes (drop i xs) ≡ false
   any_end h = ap (any passes) (drop_all i xs h)
+
+-- The library's test is the same.
+pub any_is : {X : Type 0} (passes : X → Bool) (xs : List X) → list_any passes xs ≡ any passes xs
+any_is passes [] = refl
+any_is passes (x ∷ xs) = ap (λ t. passes x || t) (any_is passes xs)

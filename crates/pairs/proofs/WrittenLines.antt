@@ -1,5 +1,6 @@
 -- Lines written one after the other into a table.
-use Rattle.std.proofs.Common.{◌≡◌, ℕ, zero, suc, ◌+◌, ◌-◌, ◌<◌, ◌≤◌, min, cond, ◌&&◌, eqb, List, [], ◌∷◌, length, get_or, drop, sum_by, sym, refl, ap, ◌∙◌, ⊎_elim, arith}
+use Rattle.std.proofs.Common.{◌≡◌, ℕ, zero, suc, ◌+◌, ◌-◌, ◌<◌, ◌≤◌, min, Bool, true, false, cond, ◌&&◌, eqb, List, [], ◌∷◌, length, get_or, map, drop, sum_by, sym, refl, ap, ◌∙◌, ⊎_elim, arith}
+use Rattle.std.specs.List.{fold, filter}
 use Rattle.std.proofs.lemmas.List.Sums.{sum_by-cons, sum_by-append}
 use Rattle.std.proofs.lemmas.List.{drop-drop, drop_more}
 use Rattle.std.proofs.lemmas.Bool.{cases_eq, eq-eqb, ne_eqb, and_left, and_right}
@@ -10,9 +11,9 @@ use Rattle.pairing.specs.Lines.{Lot, lot, total, of_seller, left, add_line, fres
 use Rattle.pairs.specs.declared.lots.SellerLots.{SellerLots}
 use Rattle.pairs.specs.Records.{held, row_lots, lots_from}
 
--- What stands where a table has no line.
-abbrev pub no_line : Line
-no_line = record { stage = Member; buyer = 0; seller = 0; asset = 0; contracts = 0; taken = 0; settled = 0; returned = 0 }
+-- What stands where a table has no pair.
+abbrev pub no_pair : Pair
+no_pair = record { stage = Member; buyer = 0; seller = 0; contracts = 0 }
 
 -- ---- the lots that records hold
 
@@ -85,6 +86,31 @@ stays_both n m xs ys zs h e f =
     let k : m ≡ n + (m - n) = omega arith in
     f ∙ ap (λ j. drop j ys) k ∙ sym (drop-drop (m - n) n ys) ∙ ap (drop (m - n)) e ∙ drop-drop (m - n) n xs ∙ ap (λ j. drop j xs) (sym k)
 
+-- ---- what lines leave of a lot
+
+-- One line after the other, or all at once.
+pub less_each : (p : Line → Bool) (n : ℕ) (ls : List Line)
+    → fold (λ (left n : ℕ). left - n) n (map (λ (l : Line). l.contracts) (filter p ls)) ≡ n - total p (λ l. l.contracts) ls
+less_each p n [] = omega arith
+less_each p n (l ∷ ls) = go (p l) refl (less_each p (n - l.contracts) ls) (less_each p n ls)
+  where
+    all : ℕ → List Line → ℕ
+    all k xs = fold (λ (left n : ℕ). left - n) k (map (λ (x : Line). x.contracts) xs)
+
+    c : total p (λ x. x.contracts) (l ∷ ls) ≡ cond (p l) l.contracts 0 + total p (λ x. x.contracts) ls
+    c = sum_by-cons (λ x. cond (p x) x.contracts 0) l ls
+
+    go : (t : Bool) → p l ≡ t → all (n - l.contracts) (filter p ls) ≡ (n - l.contracts) - total p (λ x. x.contracts) ls
+        → all n (filter p ls) ≡ n - total p (λ x. x.contracts) ls → all n (cond (p l) (l ∷ filter p ls) (filter p ls)) ≡ n - total p (λ x. x.contracts) (l ∷ ls)
+    go true e taken left =
+        let here : cond (p l) l.contracts 0 ≡ l.contracts = ap (λ t. cond t l.contracts 0) e in
+        let d = ap (λ t. all n (cond t (l ∷ filter p ls) (filter p ls))) e in
+        omega (arith, c, here, taken, d)
+    go false e taken left =
+        let here : cond (p l) l.contracts 0 ≡ 0 = ap (λ t. cond t l.contracts 0) e in
+        let d = ap (λ t. all n (cond t (l ∷ filter p ls) (filter p ls))) e in
+        omega (arith, c, here, left, d)
+
 -- ---- an asset more, and a pair more
 
 -- What is left of a lot in the records, with the lines so far.
@@ -106,7 +132,3 @@ pub pairs_more : (lots : List Lot) (K i : ℕ) (ps : List Pair) (d : Pair) (ls r
     → lines_of_pairs lots K (drop (i + 1) ps) rs ≡ lines_of_pairs lots K (drop i ps) ls
 pairs_more lots K i ps d ls rs h e =
     ap (lines_of_pairs lots K (drop (i + 1) ps)) e ∙ ap (λ qs. lines_of_pairs lots K qs ls) (sym (drop_more ps i d h))
-
--- What stands where a table has no pair.
-abbrev pub no_pair : Pair
-no_pair = record { stage = Member; buyer = 0; seller = 0; contracts = 0 }

@@ -1,18 +1,19 @@
 // The first deliverable of a book.
-ghost use Rattle.std.specs.Prelude.{◌≡◌, ◌≤◌, true, length};
+ghost use Rattle.std.specs.Prelude.{◌≡◌, ◌<◌, ◌≤◌, true, length, IfSome, IfNone};
 ghost use Rattle.book.specs.Limits.{most_assets};
 ghost use Rattle.order.specs.First.{first};
 ghost use Rattle.book.specs.Books.{invoice_of};
 ghost use Rattle.book.specs.Data.{contents};
 ghost use Rattle.pairing.specs.Orders.{deliverable_leq, deliverables, place_or_0, first_deliverable};
 
-use crate::lots::MOST_ASSETS;
 use book::book::Book;
+use book::limits::MOST_ASSETS;
 use book::records::Asset;
 use order::first_open;
 use pairing::deliverable::Deliverable;
 
-// What stands in a place of the table of deliverables that is not used.
+// What stands in a place of the table of deliverables that is not used. (An `ArrayVec` has no such places, but asks
+// `Default` of its records, which those of `pairing` do not have.)
 const NO_DELIVERABLE: Deliverable = Deliverable {
     asset: 0,
     market: 0,
@@ -35,28 +36,30 @@ fn list_all(price: u32, assets: &[Asset], out: &mut [Deliverable])
     requires { (length out.old ≡ length assets.now) × (length assets.now ≤ most_assets) }
     ensures { out.new ≡ deliverables price 0 assets.now }
 {
-    for i in 0..assets.len() {
-        out[i] = deliverable(price, i as u8, &assets[i]);
+    // by index: of what is written through a zip with `iter_mut` a proof knows nothing
+    for (i, x) in assets.iter().enumerate() {
+        out[i] = deliverable(price, i as u8, x); // the cast loses nothing: there are at most four
     }
 }
 
-// The number of the first deliverable, with a table to list them in.
-fn first_on(price: u32, assets: &[Asset], table: &mut [Deliverable]) -> u8
-    requires { (length assets.now ≤ length table.old) × (length assets.now ≤ most_assets) }
-    ensures value { result ≡ place_or_0 (first deliverable_leq (λ _. true) (deliverables price 0 assets.now)) }
-{
-    let list = &mut table[0..assets.len()];
-    list_all(price, assets, list);
-    match first_open(list) {
-        Some(i) => i as u8,
-        None => 0,
-    }
-}
-
-// The number of the first deliverable; 0 where the book is empty.
-pub fn first_deliverable(book: &Book) -> u8
-    ensures value { result ≡ first_deliverable (contents book.now) }
+// The number of the first deliverable; none where there is no asset.
+fn first_of(price: u32, assets: &[Asset]) -> Option<usize>
+    requires { length assets.now ≤ most_assets }
+    ensures none_of_none { IfNone result (length assets.now ≡ 0) }
+    ensures within { IfSome result (λ asset. asset < length assets.now) }
+    ensures value { IfSome result (λ asset. asset ≡ place_or_0 (first deliverable_leq (λ _. true) (deliverables price 0 assets.now))) }
 {
     let mut table = [NO_DELIVERABLE; MOST_ASSETS];
-    first_on(book.terms().price, book.assets(), &mut table)
+    let list = &mut table[..assets.len()];
+    list_all(price, assets, list);
+    first_open(list)
+}
+
+// The number of the first deliverable; none where the book is empty.
+pub(crate) fn first_deliverable(book: &Book) -> Option<usize>
+    ensures none_of_none { IfNone result (length (contents book.now).assets ≡ 0) }
+    ensures within { IfSome result (λ asset. asset < length (contents book.now).assets) }
+    ensures value { IfSome result (λ asset. asset ≡ first_deliverable (contents book.now)) }
+{
+    first_of(book.terms().price, book.assets())
 }

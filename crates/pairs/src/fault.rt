@@ -3,7 +3,7 @@ ghost use Rattle.std.specs.Prelude.{◌≡◌};
 ghost use Rattle.pairs.specs.Refusals.{number};
 
 // A table has too few places: four lines a holder, and a record of lots for each holder.
-#[derive(Clone, Copy)]
+#[derive(Clone, Copy, PartialEq, Eq, Debug)]
 pub enum PairingFault {
     FewLines,
     FewRecords,
@@ -15,8 +15,7 @@ impl PairingFault {
         ensures numbered { result ≡ number self }
     {
         match self {
-            PairingFault::FewLines => 15,
-            PairingFault::FewRecords => 15,
+            PairingFault::FewLines | PairingFault::FewRecords => 15,
         }
     }
 }

@@ -6,6 +6,7 @@ pub mod fault;
 mod handing;
 mod lines;
 pub mod lots;
+mod pairer;
 mod rows;
 mod search;
 pub mod whole_book;

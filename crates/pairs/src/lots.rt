@@ -1,7 +1,9 @@
 // What each seller has notified.
+ghost use Rattle.std.specs.Prelude.{◌≤◌};
+ghost use Rattle.book.specs.Limits.{most_assets};
 
-// A book has at most 4 deliverable assets, and a record a place for each.
-pub const MOST_ASSETS: usize = 4;
+// A record has a place for each deliverable asset that a book can have.
+pub use book::limits::MOST_ASSETS;
 
 // The lots of one holder by asset, and the contracts notified in them. A buyer's stay 0.
 #[derive(Clone, Copy)]
@@ -16,4 +18,12 @@ impl SellerLots {
         lots: [0; MOST_ASSETS],
         notified: 0,
     };
+}
+
+// The records of a book's sellers, with lots in so many assets.
+#[derive(Clone, Copy)]
+pub(crate) struct Lots<'a> {
+    pub(crate) records: &'a [SellerLots],
+    pub(crate) assets: u8,
+    ghost few_assets: { assets ≤ most_assets },
 }

@@ -9,10 +9,11 @@ ghost use Rattle.pairs.specs.Outcome.{pair_answer, pair_leaves, OfLines, hand_an
 
 use crate::deliverables::first_deliverable;
 use crate::fault::PairingFault;
-use crate::handing::hand_rows;
-use crate::lots::SellerLots;
-use crate::rows::{MOST_HOLDERS, lines_of_rows};
+use crate::handing::Ending;
+use crate::lots::{Lots, SellerLots};
+use crate::rows::lines_of_rows;
 use book::book::Book;
+use book::limits::MOST_HOLDERS;
 use pairing::line::Line;
 
 // The places that a table of lines needs for each holder: there are fewer pairs than holders, and a pair has at most a
@@ -29,7 +30,12 @@ fn pair_book(book: &Book, lots: &[SellerLots], lines: &mut [Line]) -> Result<usi
     if lines.len() < PLACES_A_HOLDER * holders.len() {
         return Err(PairingFault::FewLines);
     }
-    Ok(lines_of_rows(holders, book.assets().len() as u8, lots, lines))
+    let lots = Lots {
+        records: lots,
+        // a book has at most four assets, so that the cast loses nothing
+        assets: book.assets().len() as u8,
+    };
+    Ok(lines_of_rows(holders, &lots, lines))
 }
 
 // The same, with what the laws say of the lines.
@@ -63,12 +69,15 @@ fn hand_to_first(book: &Book, records: &mut [SellerLots]) -> Result<(), PairingF
     if records.len() < holders.len() {
         return Err(PairingFault::FewRecords);
     }
-    hand_rows(
-        holders,
-        book.assets().len() as u8,
-        first_deliverable(book),
-        records,
-    );
+    let Some(first) = first_deliverable(book) else {
+        // a book with no asset has no holder either
+        return Ok(());
+    };
+    let ending = Ending {
+        assets: book.assets().len(),
+        first,
+    };
+    ending.hand_rows(holders, records);
     Ok(())
 }
 

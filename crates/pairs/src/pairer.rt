@@ -1,0 +1,207 @@
+// Pairing under way: the pairs of all groups, in the order made.
+ghost use Rattle.std.specs.Prelude.{◌≡◌, ◌+◌, ◌<◌, ◌≤◌, [], ◌∷◌, ◌++◌, map, length, take, IfSome};
+ghost use Rattle.book.specs.Limits.{most_holders, most_member};
+ghost use Rattle.order.specs.First.{first, place_of};
+ghost use Rattle.pairing.specs.Orders.{holder_leq};
+ghost use Rattle.pairing.specs.Pairing.{paired, unpaired, in_group, in_groups, numbered, all_groups, and_then};
+ghost use Rattle.pairing.proofs.PairRelations.{open_count};
+ghost use Rattle.pairs.specs.Search.{passes, next_pair, Takes, exhaust};
+
+use crate::search::{Choice, has_group, mask};
+use book::limits::{MOST_AGENT, MOST_HOLDERS, MOST_MEMBER};
+use book::records::Holder;
+use order::first_open;
+use pairing::pair::{Pair, Unpaired};
+use pairing::stage::{Group, Stage};
+use std::marker::Model;
+
+// What stands in the places of the tables that are not used. (An `ArrayVec` has no such places, but asks `Default` of
+// its records, which those of `pairing` do not have, and a copy of one is a `Result`.)
+const NO_HOLDER: Unpaired = Unpaired {
+    member: 0,
+    number: 0,
+    clearing: 0,
+    agent: 0,
+    buys: false,
+    volume: 0,
+};
+
+const NO_PAIR: Pair = Pair {
+    stage: Stage::Member,
+    buyer: 0,
+    seller: 0,
+    contracts: 0,
+};
+
+// Takes a pair's contracts off both of its holders.
+fn lower_both(holders: &mut [Unpaired], p: Pair)
+    requires { Takes holders.old p }
+    ensures { holders.new ≡ paired p holders.old }
+{
+    holders[p.buyer].volume -= p.contracts;
+    holders[p.seller].volume -= p.contracts;
+}
+
+// A holder with all of its contracts unpaired. (`From` would have to stand beside the type, in `pairing`.)
+fn unpaired_one(h: Holder) -> Unpaired
+    ensures { result ≡ unpaired h }
+{
+    Unpaired {
+        member: h.member,
+        number: h.number,
+        clearing: h.clearing,
+        agent: h.agent,
+        buys: h.buys(),
+        volume: h.volume(),
+    }
+}
+
+// All holders with all of their contracts unpaired, in the first places of a table.
+fn unpaired_all(holders: &[Holder]) -> [Unpaired; MOST_HOLDERS]
+    requires { length holders.now ≤ most_holders }
+    ensures in_the_first_places { take (length holders.now) result ≡ map unpaired holders.now }
+    ensures whole_table { length result ≡ most_holders }
+{
+    let mut table = [NO_HOLDER; MOST_HOLDERS];
+    // by index: of what is written through a zip with `iter_mut` a proof knows nothing
+    for (i, h) in holders.iter().enumerate() {
+        table[i] = unpaired_one(*h);
+    }
+    table
+}
+
+// A pairing under way: the pairs made so far, and the holders with what each still has to pair. Its tables have fixed
+// sizes, so that it asks for no memory.
+#[derive(Drop)]
+pub(crate) struct Pairer {
+    pairs: [Pair; MOST_HOLDERS],
+    made: usize,
+    holders: [Unpaired; MOST_HOLDERS],
+    count: usize,
+}
+
+impl Model for Pairer {
+    ghost use Rattle.std.specs.Prelude.{◌≡◌, ◌+◌, ◌≤◌, length, take};
+    ghost use Rattle.book.specs.Limits.{most_holders};
+    ghost use Rattle.pairing.specs.Pairing.{Made};
+    ghost use Rattle.pairing.proofs.PairRelations.{open_count};
+
+    ghost Value = { Made };
+
+    ghost view = { λ s. (take s.made s.pairs, take s.count s.holders) };
+
+    // each pair closes a holder, so that there is room for all pairs
+    ghost invariant = { λ s. (s.count ≤ most_holders) × (s.made + open_count (take s.count s.holders) ≤ most_holders)
+        × (length s.holders ≡ most_holders) × (length s.pairs ≡ most_holders) };
+}
+
+impl Pairer {
+    // All holders with all of their contracts unpaired, and no pair yet.
+    pub(crate) fn new(holders: &[Holder]) -> Self
+        requires { length holders.now ≤ most_holders }
+        ensures { result ≡ ([], map unpaired holders.now) }
+    {
+        Pairer {
+            pairs: [NO_PAIR; MOST_HOLDERS],
+            made: 0,
+            holders: unpaired_all(holders),
+            count: holders.len(),
+        }
+    }
+
+    // The pairs made so far.
+    pub(crate) fn pairs(&self) -> &[Pair]
+        ensures { result.now ≡ self.now.0 }
+    {
+        &self.pairs[..self.made]
+    }
+
+    // The holders with what each still has to pair.
+    fn holders(&self) -> &[Unpaired]
+        ensures { result.now ≡ self.now.1 }
+    {
+        &self.holders[..self.count]
+    }
+
+    // The place of the holder that stands first for the next pair on one side.
+    fn first_of(&self, group: Group, buys: bool, choice: Choice) -> Option<usize>
+        ensures within { IfSome result (λ b. b < length self.now.1) }
+        ensures value { result ≡ place_of (first holder_leq (passes group buys choice self.now.1) self.now.1) }
+    {
+        let mut table = self.holders;
+        let standing = &mut table[..self.count];
+        mask(standing, self.holders(), group, buys, choice);
+        first_open(standing)
+    }
+
+    // The next pair of a group.
+    fn next_pair(&self, group: Group, choice: Choice) -> Option<Pair>
+        ensures { result ≡ next_pair choice group self.now.1 }
+    {
+        let buyer = self.first_of(group, true, choice)?;
+        let seller = self.first_of(group, false, choice)?;
+        let holders = self.holders();
+        let contracts = holders[buyer].volume.min(holders[seller].volume);
+        Some(Pair {
+            stage: group.stage,
+            buyer,
+            seller,
+            contracts,
+        })
+    }
+
+    // Notes a pair, and takes its contracts off both of its holders.
+    fn add(&mut self, p: Pair)
+        requires takes { Takes self.old.1 p }
+        requires closes_one { open_count (paired p self.old.1) + 1 ≤ open_count self.old.1 }
+        ensures { self.new ≡ (self.old.0 ++ p ∷ [], paired p self.old.1) }
+    {
+        lower_both(&mut self.holders[..self.count], p);
+        self.pairs[self.made] = p;
+        self.made += 1;
+    }
+
+    // Makes one pair after the other, until there is none.
+    fn repeat_pairs(&mut self, group: Group, choice: Choice)
+        ensures { self.new ≡ and_then self.old (exhaust (next_pair choice group)) }
+    {
+        while let Some(p) = self.next_pair(group, choice) {
+            self.add(p);
+        }
+    }
+
+    // The pairs of one group: while some volume stands on both sides, the first buyer and the first seller of the largest such
+    // volume; then the first buyer and the first seller. Most numbers have no holder.
+    fn pair_group(&mut self, group: Group)
+        ensures { self.new ≡ and_then self.old (in_group group) }
+    {
+        if has_group(self.holders(), group) {
+            self.repeat_pairs(group, Choice::EqualVolumes);
+            self.repeat_pairs(group, Choice::Firsts);
+        }
+    }
+
+    // The groups of a stage in ascending number, up to the highest.
+    fn pair_stage(&mut self, stage: Stage, highest: u16)
+        requires { highest ≤ most_member }
+        ensures { self.new ≡ and_then self.old (in_groups (numbered stage 1 highest)) }
+    {
+        for number in 1..=highest {
+            self.pair_group(Group { stage, number });
+        }
+    }
+
+    // The pairs of all holders: by member, by clearing member, by payment agent and over the whole book.
+    pub(crate) fn pair_all(&mut self)
+        ensures { self.new ≡ and_then self.old (in_groups all_groups) }
+    {
+        // three calls and no loop over the stages, since each goes up to a number of its own
+        self.pair_stage(Stage::Member, MOST_MEMBER);
+        self.pair_stage(Stage::Clearing, MOST_MEMBER);
+        self.pair_stage(Stage::Agent, u16::from(MOST_AGENT));
+        self.pair_group(Group {
+            stage: Stage::Whole,
+            number: 0,
+        });
+    }
+}
