@@ -30,16 +30,9 @@ pub fn inside(line: &Line) -> u32
 fn agent_of(book: &Book, row: usize) -> usize
     ensures { result ≡ (holder (contents book.now) row).agent }
 {
-    let holders = book.holders();
-    if row == 0 {
-        return 0;
-    }
-    let place = row - 1;
-    if place < holders.len() {
-        usize::from(holders[place].agent)
-    } else {
-        0
-    }
+    row.checked_sub(1)
+        .and_then(|place| book.holders().get(place))
+        .map_or(0, |holder| usize::from(holder.agent))
 }
 
 impl Party {
@@ -59,12 +52,8 @@ impl Party {
     {
         let contracts = inside(line);
         match self {
-            Party::Buyer => {
-                line.settled += contracts;
-            }
-            Party::Seller => {
-                line.returned += contracts;
-            }
+            Party::Buyer => line.settled += contracts,
+            Party::Seller => line.returned += contracts,
         }
     }
 

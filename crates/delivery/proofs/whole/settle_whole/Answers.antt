@@ -10,7 +10,7 @@ use Rattle.delivery.specs.Handing.{paid_agents}
 use Rattle.delivery.specs.Whole.{net_postings}
 use Rattle.delivery.proofs.Outcomes.{ok_err}
 use Rattle.delivery.proofs.WholeSides.{whole_units, whole_cash, nets_paid}
-use Rattle.delivery.proofs.whole.settle_all.Goals as goal
+use Rattle.delivery.proofs.whole.settle_whole.Goals as goal
 
 pub returns-in_err-settle_by : goal.returns-in_err-settle_by
 returns-in_err-settle_by g c =
@@ -21,19 +21,6 @@ returns-in_err-settle_by g c =
       settles_where_no_move_is_refused = λ fit us cs.
           absurd (ok_err (c.settle_by.ensures.settles_where_no_move_is_refused (whole_units b ls s us).0).0 c.in_err-settle_by.was);
       memory_is_kept = (c.settle_by.ensures.memory_is_kept, refl);
-    }
-
-pub returns-in_err-pay_agents : goal.returns-in_err-pay_agents
-returns-in_err-pay_agents g c =
-    let b : Contents = contents c.args.book.now in
-    let ls : List Line = c.args.lines.now in
-    let m : Meaning = meaning g.C.Balances c.args.cash.now in
-    record {
-      settles_where_no_move_is_refused = λ fit us cs.
-          let e : paid_agents c.credits-amounts.result ≡ net_postings b ls = nets_paid b ls c.credits-amounts.result fit c.credits-amounts.ensures.each_net_above_0 in
-          let n : NoneRefused Cash m (paid_agents c.credits-amounts.result) = subst (λ (z : List Posting). NoneRefused Cash m z) (sym e) (whole_cash b ls m cs).0 in
-          absurd (ok_err (c.pay_agents.ensures.pays_where_no_move_is_refused n).0 c.in_err-pay_agents.was);
-      memory_is_kept = (c.settle_by.ensures.memory_is_kept, c.pay_agents.ensures.memory_is_kept);
     }
 
 pub returns : goal.returns
@@ -50,7 +37,7 @@ returns g c =
           let e : paid_agents c.credits-amounts.result ≡ net_postings b ls = nets_paid b ls c.credits-amounts.result fit c.credits-amounts.ensures.each_net_above_0 in
           let p : NoneRefused Cash m (paid_agents c.credits-amounts.result) = subst (λ (z : List Posting). NoneRefused Cash m z) (sym e) k.0 in
           let paid = c.pay_agents.ensures.pays_where_no_move_is_refused p in (
-            refl,
+            paid.0,
             did.2,
             did.1 ∙ sym u.1,
             paid.1 ∙ (ap (λ (z : List Posting). all_posted Cash m z) e ∙ sym k.1),
