@@ -8,7 +8,7 @@ use rules::fault::Cause;
 use rules::side::Side;
 
 // What a register refused, whole. Whoever made the call receives it.
-#[derive(Clone, Copy)]
+#[derive(Clone, Copy, PartialEq, Eq, Debug)]
 pub struct SideFault {
     pub side: Side,
     pub fault: RegisterFault,

@@ -11,14 +11,15 @@ ghost use Rattle.rules.specs.Postings.{pays};
 use crate::fault::{SideFault, on};
 use crate::party::{Party, inside};
 use crate::taking::{CASH, HOUSE};
+use book::limits::MOST_AGENT;
 use pairing::line::Line;
 use register::balances::Balances;
 use register::fault::RegisterFault;
 use register::transfers::Transfers;
 use rules::side::Side;
 
-// Places for amounts by agent: agents are numbered from 1, and no book has one above 64.
-pub const AGENT_PLACES: usize = 65;
+// Places for amounts by agent: agents are numbered from 1, and place 0 is nobody's.
+pub const AGENT_PLACES: usize = MOST_AGENT as usize + 1;
 
 // Pays an amount out of the house's account; nothing where it is 0.
 pub(crate) fn pay<R: Transfers>(
@@ -100,8 +101,8 @@ pub fn pay_agents<C: Transfers>(
     ensures pays_where_no_move_is_refused { PaysCash (paid_agents amounts.now) (meaning C.Balances cash.old) (meaning C.Balances cash.new) result }
     ensures memory_is_kept { C.Balances.lender cash.new ≡ C.Balances.lender cash.old }
 {
-    for agent in 1..AGENT_PLACES {
-        pay_agent(cash, agent, amounts[agent])?;
+    for (agent, amount) in amounts.iter().enumerate().skip(1) {
+        pay_agent(cash, agent, *amount)?;
     }
     Ok(())
 }
