@@ -63,7 +63,7 @@ fn difference(more: u64, less: u64) -> i64
     signed(more) - signed(less)
 }
 
-// The lines of a book, by whose clients' trades an agent is owed or owes.
+// The lines of a book, as an agent's clients buy and sell on them.
 #[derive(Clone, Copy)]
 struct Trades<'a> {
     book: &'a Book,
@@ -88,14 +88,6 @@ impl Trades<'_> {
         ensures { result ≡ min (summed measure (contents self.now.book.now) party self.now.lines.now self.now.agent) most_64 }
     {
         narrowed(self.added(party, measure))
-    }
-
-    // What the agent's net is below 0.
-    fn debit(&self) -> u64
-        ensures { ValuesFit (contents self.now.book.now) self.now.lines.now self.now.agent → result ≡ debit_of (contents self.now.book.now) self.now.lines.now self.now.agent }
-    {
-        let bought = self.sum(Party::Buyer, Measure::Contracts);
-        bought.saturating_sub(self.sum(Party::Seller, Measure::Contracts))
     }
 
     // What the agent's net is above 0.
@@ -134,7 +126,9 @@ impl Trades<'_> {
 pub fn debit(book: &Book, lines: &[Line], agent: usize) -> u64
     ensures net_below_0 { ValuesFit (contents book.now) lines.now agent → result ≡ debit_of (contents book.now) lines.now agent }
 {
-    Trades { book, lines, agent }.debit()
+    let trades = Trades { book, lines, agent };
+    let bought = trades.sum(Party::Buyer, Measure::Contracts);
+    bought.saturating_sub(trades.sum(Party::Seller, Measure::Contracts))
 }
 
 // Each agent's net above 0, by its number; 0 for the others.
