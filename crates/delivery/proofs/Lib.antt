@@ -1,11 +1,8 @@
 pub mod Outcomes
-pub mod Spreads
 pub mod PostedRuns
 pub mod HandedLines
 pub mod PaidAgents
 pub mod WideAmounts
-pub mod PaidLine
-pub mod SettledLine
 pub mod OpenLines
 pub mod SaturatedSums
 pub mod MadePlaces

@@ -14,8 +14,9 @@ from_any {X} most passes f a (x ∷ xs) h =
     let F : ℕ → List ℕ → ℕ = λ s ns. fold (capped most) s ns in
     let goal : Bool → Type 0 = λ t. F a (map f (cond t (x ∷ filter passes xs) (filter passes xs))) ≡ min (a + (cond t (f x) 0 + sum_by (λ z. cond (passes z) (f z) 0) xs)) most in
     let both : goal (passes x) = elim (passes x) as goal [
-      true ↦ from_any most passes f (min (a + f x) most) xs (omega arith) ∙ omega arith
-      | false ↦ from_any most passes f a xs h ∙ omega arith ] in
+      | true ↦ from_any most passes f (min (a + f x) most) xs (omega arith) ∙ omega arith
+      | false ↦ from_any most passes f a xs h ∙ omega arith
+    ] in
     both ∙ omega (arith, split)
 
 pub saturated : {X : Type 0} (most : ℕ) (passes : X → Bool) (f : X → ℕ) (xs : List X) → fold (capped most) 0 (map f (filter passes xs)) ≡ min (sum_by (λ x. cond (passes x) (f x) 0) xs) most

@@ -10,7 +10,7 @@ use book::book::Book;
 use pairing::line::Line;
 
 // The two holders of a line. Units that a buyer gets are settled, units that a seller gets are returned.
-#[derive(Clone, Copy)]
+#[derive(Clone, Copy, PartialEq, Eq, Debug)]
 pub enum Party {
     Buyer,
     Seller,
@@ -27,6 +27,7 @@ pub fn inside(line: &Line) -> u32
 }
 
 // The payment agent of the holder in a row; 0 where there is nobody.
+// No Option: the rules give nobody agent 0, so both uses, a number compared and an account, would make None 0 again.
 fn agent_of(book: &Book, row: usize) -> usize
     ensures { result ≡ (holder (contents book.now) row).agent }
 {

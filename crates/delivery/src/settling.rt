@@ -45,14 +45,18 @@ fn shift<C: Transfers>(
     )
 }
 
-// The agent that pays for a line, its buyer's, and the one that is paid, its seller's.
+// The agent that pays for a line, its buyer's, and the one that is paid, its seller's. It stands by itself, so that a wrong
+// agent is refused here, by its contract.
 fn agents(book: &Book, line: &Line) -> (usize, usize)
     ensures { result ≡ (buyer_agent (contents book.now) line.now, seller_agent (contents book.now) line.now) }
 {
-    (Party::Buyer.agent(book, line), Party::Seller.agent(book, line))
+    (
+        Party::Buyer.agent(book, line),
+        Party::Seller.agent(book, line),
+    )
 }
 
-// The value of a line's contracts in.
+// The value of a line's contracts in. It stands by itself, so that a wrong value is refused here, by its contract.
 fn worth(book: &Book, line: &Line) -> u128
     ensures { result ≡ worth_of (contents book.now) line.now }
 {

@@ -19,7 +19,8 @@ use pairing::line::Line;
 use std::array;
 
 // What a line counts for in a sum: its contracts, or the unsettled of them, at the invoice or the market price.
-#[derive(Clone, Copy)]
+// No closure: its contract would speak of every function that the closure may compute, where `measured` is one equation.
+#[derive(Clone, Copy, PartialEq, Eq, Debug)]
 pub enum Measure {
     Contracts,
     UnsettledAtInvoice,
@@ -27,6 +28,7 @@ pub enum Measure {
 }
 
 // The market price of an asset in centavos a unit; 0 where the book has no such asset.
+// No Option: the rules price what is no asset at 0, and its one use is a factor.
 fn market_price(book: &Book, asset: usize) -> u32
     ensures { result ≡ (asset_at (contents book.now) asset).market }
 {

@@ -15,7 +15,8 @@ use pairing::line::Line;
 use register::balances::Balances;
 use register::transfers::Transfers;
 
-// Delivers the units of all contracts in by the book's multiplier.
+// Delivers the units of all contracts in by the book's multiplier. It stands by itself, so that a wrong factor is refused
+// here, by its contract.
 fn settle_by<S: Transfers>(
     book: &Book,
     lines: &mut [Line],
@@ -24,12 +25,7 @@ fn settle_by<S: Transfers>(
     ensures settles_where_no_move_is_refused { HandsOut to_buyer (contents book.now).terms.multiplier lines.old lines.new (meaning S.Balances securities.old) (meaning S.Balances securities.new) result }
     ensures memory_is_kept { S.Balances.lender securities.new ≡ S.Balances.lender securities.old }
 {
-    hand_out(
-        lines,
-        Party::Buyer,
-        book.terms().multiplier,
-        securities,
-    )
+    hand_out(lines, Party::Buyer, book.terms().multiplier, securities)
 }
 
 // Settles all lines at once, out of the units and the draws that the house holds.

@@ -7,7 +7,7 @@ use Rattle.rules.specs.Postings.{Posting, pays}
 use Rattle.rules.specs.Tally.{cash_asset}
 use Rattle.delivery.specs.Handing.{paid_agents}
 use Rattle.delivery.proofs.Outcomes.{ok_err}
-use Rattle.delivery.proofs.PaidAgents.{Starts, cash_to, walk_turn, walk_end, paying_none, paying_here, paying_more, paying_all}
+use Rattle.delivery.proofs.PaidAgents.{Starts, cash_to, walk_turn, paying_none, paying_here, paying_more}
 use Rattle.delivery.proofs.paying.pay_agents.Goals as goal
 
 pub loop-agent-init : goal.loop-agent-init
@@ -42,15 +42,3 @@ loop-agent-preserved g c =
           rw (length_push c.loop-agent.yielded (c.in-Some.agent, c.in-Some.amount)) more),
       c.pay_agent.ensures.memory_is_kept ∙ c.loop-agent.invariant.1,
     )
-
-pub returns : goal.returns
-returns g c =
-    let amounts : List ℕ = c.args.amounts.now in
-    let long : length amounts ≡ 65 = search rules in
-    let start : Starts amounts c.into_iter-agent-iterator.result = (cc, cc, cc) in
-    let end = walk_end amounts c.into_iter-agent-iterator.result c.loop-agent.agent-iterator c.next.new.self c.loop-agent.yielded c.next.result start c.loop-agent.yielded_by c.in-None.is c.next.ensures.steps in
-    record {
-      pays_where_no_move_is_refused = λ can.
-          (refl, paying_all Cash (cash_to amounts) 65 (length c.loop-agent.yielded + 1) (meaning g.C.Balances c.args.cash.now) (meaning g.C.Balances c.loop-agent.cash) (paid_agents amounts) (omega (arith, long, end)) (c.loop-agent.invariant.0 can));
-      memory_is_kept = c.loop-agent.invariant.1;
-    }
