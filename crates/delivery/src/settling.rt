@@ -45,17 +45,6 @@ fn shift<C: Transfers>(
     )
 }
 
-// The agent that pays for a line, its buyer's, and the one that is paid, its seller's. It stands by itself, so that a wrong
-// agent is refused here, by its contract.
-fn agents(book: &Book, line: &Line) -> (usize, usize)
-    ensures { result ≡ (buyer_agent (contents book.now) line.now, seller_agent (contents book.now) line.now) }
-{
-    (
-        Party::Buyer.agent(book, line),
-        Party::Seller.agent(book, line),
-    )
-}
-
 // The value of a line's contracts in. It stands by itself, so that a wrong value is refused here, by its contract.
 fn worth(book: &Book, line: &Line) -> u128
     ensures { result ≡ worth_of (contents book.now) line.now }
@@ -69,9 +58,8 @@ fn pay_for<C: Transfers>(book: &Book, line: &Line, cash: &mut C) -> Result<(), S
     ensures memory_is_kept { C.Balances.lender cash.new ≡ C.Balances.lender cash.old }
 {
     let amount = worth(book, line);
-    let (payer, payee) = agents(book, line);
-    shift(cash, payer, HOUSE, amount)?;
-    shift(cash, HOUSE, payee, amount)
+    shift(cash, Party::Buyer.agent(book, line), HOUSE, amount)?;
+    shift(cash, HOUSE, Party::Seller.agent(book, line), amount)
 }
 
 // Settles the contracts in of one line: the value of them goes from the buyer's agent through the house to the seller's
