@@ -4,9 +4,8 @@ ghost use Rattle.register.specs.Registers.{meaning};
 ghost use Rattle.register.specs.Rules.{transfer_answer, after_transfer};
 ghost use Rattle.book.specs.Data.{contents};
 ghost use Rattle.delivery.specs.Widths.{most_64};
-ghost use Rattle.pairing.specs.Lines.{buyer_agent, seller_agent};
 ghost use Rattle.rules.specs.declared.side.Side.TheVariants.{Cash};
-ghost use Rattle.rules.specs.Tally.{house, cash_asset};
+ghost use Rattle.rules.specs.Tally.{cash_asset};
 ghost use Rattle.delivery.specs.Sides.{on_side};
 ghost use Rattle.delivery.specs.Settling.{worth as worth_of, line_cash, PaysFor, Settles, UnpaidStays};
 

@@ -1,11 +1,11 @@
 // Sums over the lines of an agent's clients: what each agent owes, is owed, and nets.
-ghost use Rattle.std.specs.Prelude.{◌≡◌, ℕ, ◌-◌, ◌<◌, ◌≤◌, ◌+◌, map, min, pos, if◌then◌else◌, nat_eq, slice_index, slice_index_or};
+ghost use Rattle.std.specs.Prelude.{◌≡◌, ℕ, ◌+◌, ◌≤◌, map, min, pos, nat_eq, slice_index, slice_index_or};
 ghost use Rattle.std.specs.List.{fold, filter};
 ghost use Rattle.std.proofs.Math.IntN.{sub_ℕ};
 ghost use Rattle.book.specs.Data.{contents};
 ghost use Rattle.book.specs.Books.{asset_at};
 ghost use Rattle.book.specs.Limits.{most_agent};
-ghost use Rattle.pairing.specs.Lines.{net as net_of, debit as debit_of, value_bought, value_sold, sumℤ, claim_on};
+ghost use Rattle.pairing.specs.Lines.{net as net_of, debit as debit_of, sumℤ, claim_on};
 ghost use Rattle.delivery.specs.Widths.{most_63, most_64, most_128};
 ghost use Rattle.delivery.specs.Parties.{agent_on};
 ghost use Rattle.delivery.specs.Sums.{measured, summed, ValuesFit, ClaimsFit};

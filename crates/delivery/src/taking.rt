@@ -1,5 +1,5 @@
 // What comes in to the house: the units of contracts taken, and draws of cash.
-ghost use Rattle.std.specs.Prelude.{◌≡◌, ◌+◌, ◌-◌, ◌≤◌, ◌*◌, ◌/◌, min, map, not, ltb, if◌then◌else◌, nat_lt};
+ghost use Rattle.std.specs.Prelude.{◌≡◌, ◌+◌, ◌-◌, ◌≤◌, ◌*◌, ◌/◌, min, map, not, ltb, nat_lt};
 ghost use Rattle.std.specs.List.{list_any, fold, filter};
 ghost use Rattle.order.specs.First.{any};
 ghost use Rattle.register.specs.Registers.{meaning};
