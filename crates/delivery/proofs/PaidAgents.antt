@@ -66,10 +66,10 @@ paying_none amounts m n = record { none_refused = n; posted = refl }
 abbrev pub numbered : List ℕ → List (ℕ × ℕ)
 numbered amounts = drop 1 (enumerate_from 0 amounts)
 
-pub numbered_length : (amounts : List ℕ) → length (numbered amounts) ≡ length amounts - 1
+numbered_length : (amounts : List ℕ) → length (numbered amounts) ≡ length amounts - 1
 numbered_length amounts = let long = length-enumerate_from 0 amounts in length-drop 1 (enumerate_from 0 amounts) ∙ omega (arith, long)
 
-pub cash_at : (amounts : List ℕ) (i : ℕ) (p : ℕ × ℕ) → i < length (numbered amounts) → p ≡ get_or (numbered amounts) i p → pays Cash p.0 cash_asset p.1 ≡ cash_to amounts (i + 1)
+cash_at : (amounts : List ℕ) (i : ℕ) (p : ℕ × ℕ) → i < length (numbered amounts) → p ≡ get_or (numbered amounts) i p → pays Cash p.0 cash_asset p.1 ≡ cash_to amounts (i + 1)
 cash_at amounts i p h e =
     let long = numbered_length amounts in
     let within : 1 + i < length amounts = omega (arith, h, long) in

@@ -1,5 +1,5 @@
 // Sums over the lines of an agent's clients: what each agent owes, is owed, and nets.
-ghost use Rattle.std.specs.Prelude.{◌≡◌, ℕ, ◌+◌, ◌≤◌, map, min, pos, nat_eq, slice_index, slice_index_or};
+ghost use Rattle.std.specs.Prelude.{◌≡◌, ℕ, ◌+◌, ◌-◌, ◌≤◌, map, min, pos, nat_eq, slice_index, slice_index_or};
 ghost use Rattle.std.specs.List.{fold, filter};
 ghost use Rattle.std.proofs.Math.IntN.{sub_ℕ};
 ghost use Rattle.book.specs.Data.{contents};
@@ -8,6 +8,7 @@ ghost use Rattle.book.specs.Limits.{most_agent};
 ghost use Rattle.pairing.specs.Lines.{net as net_of, debit as debit_of, sumℤ, claim_on};
 ghost use Rattle.delivery.specs.Widths.{most_63, most_64, most_128};
 ghost use Rattle.delivery.specs.Parties.{agent_on};
+ghost use Rattle.delivery.specs.declared.sums.Measure.TheVariants.{Contracts as all_contracts};
 ghost use Rattle.delivery.specs.Sums.{measured, summed, ValuesFit, ClaimsFit};
 ghost use Rattle.delivery.specs.Whole.{net_above};
 
@@ -92,12 +93,12 @@ impl Trades<'_> {
         narrowed(self.added(party, measure))
     }
 
-    // What the agent's net is above 0.
-    fn credit(&self) -> u64
-        ensures { ValuesFit (contents self.now.book.now) self.now.lines.now self.now.agent → result ≡ net_above (contents self.now.book.now) self.now.lines.now self.now.agent }
+    // How far the value that the agent's clients trade as one party is above what they trade as the other.
+    fn above(&self, more: Party, less: Party) -> u64
+        ensures { result ≡ min (summed all_contracts (contents self.now.book.now) more self.now.lines.now self.now.agent) most_64 - min (summed all_contracts (contents self.now.book.now) less self.now.lines.now self.now.agent) most_64 }
     {
-        let sold = self.sum(Party::Seller, Measure::Contracts);
-        sold.saturating_sub(self.sum(Party::Buyer, Measure::Contracts))
+        let value = self.sum(more, Measure::Contracts);
+        value.saturating_sub(self.sum(less, Measure::Contracts))
     }
 
     // The agent's net: the value of the lines that its clients sell less those that they buy.
@@ -128,16 +129,14 @@ impl Trades<'_> {
 pub fn debit(book: &Book, lines: &[Line], agent: usize) -> u64
     ensures net_below_0 { ValuesFit (contents book.now) lines.now agent → result ≡ debit_of (contents book.now) lines.now agent }
 {
-    let trades = Trades { book, lines, agent };
-    let bought = trades.sum(Party::Buyer, Measure::Contracts);
-    bought.saturating_sub(trades.sum(Party::Seller, Measure::Contracts))
+    Trades { book, lines, agent }.above(Party::Buyer, Party::Seller)
 }
 
 // Each agent's net above 0, by its number; 0 for the others.
 pub(crate) fn credits(book: &Book, lines: &[Line]) -> [u64; AGENT_PLACES]
     ensures each_net_above_0 { (k : ℕ) → k ≤ most_agent → ValuesFit (contents book.now) lines.now k → slice_index result k ≡ net_above (contents book.now) lines.now k }
 {
-    array::from_fn(|agent| Trades { book, lines, agent }.credit())
+    array::from_fn(|agent| Trades { book, lines, agent }.above(Party::Seller, Party::Buyer))
 }
 
 // Each agent's net, by its number.
