@@ -1,8 +1,7 @@
 -- Whether any line passes a test, in the words of the rules and in the library's.
-use Rattle.std.proofs.Common.{◌≡◌, Bool, List, refl}
+use Rattle.std.proofs.Common.{◌≡◌, Bool, ◌||◌, List, refl}
 use Rattle.std.specs.List.{list_any}
 use Rattle.std.proofs.lemmas.List.Recursion.{same_from_clauses}
-use Rattle.std.proofs.Common.{◌||◌}
 use Rattle.order.specs.First.{any}
 
 pub any_is : {X : Type 0} (passes : X → Bool) (xs : List X) → list_any passes xs ≡ any passes xs

@@ -44,7 +44,7 @@ fn shift<C: Transfers>(
     )
 }
 
-// The value of a line's contracts in. It stands by itself, so that a wrong value is refused here, by its contract.
+// The value of a line's contracts in.
 fn worth(book: &Book, line: &Line) -> u128
     ensures { result ≡ worth_of (contents book.now) line.now }
 {
