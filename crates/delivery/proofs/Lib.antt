@@ -1,14 +1,11 @@
 pub mod Outcomes
-pub mod Spreads
 pub mod PostedRuns
 pub mod HandedLines
 pub mod PaidAgents
 pub mod WideAmounts
-pub mod PaidLine
-pub mod PastTheLast
-pub mod SettledLine
 pub mod OpenLines
-pub mod FilledPlaces
+pub mod SaturatedSums
+pub mod MadePlaces
 pub mod ClaimSums
 pub mod WholeSides
 pub mod InRange

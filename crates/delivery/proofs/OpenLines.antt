@@ -1,14 +1,8 @@
--- Whether any line passes a test, one line further.
-use Rattle.std.proofs.Common.{◌≡◌, ℕ, ◌+◌, ◌<◌, ◌≤◌, Bool, true, false, ◌||◌, List, length, get_or, drop, ap, ◌∙◌}
-use Rattle.std.proofs.lemmas.List.{drop_more, drop_all}
+-- Whether any line passes a test, in the words of the rules and in the library's.
+use Rattle.std.proofs.Common.{◌≡◌, Bool, ◌||◌, List, refl}
+use Rattle.std.specs.List.{list_any}
+use Rattle.std.proofs.lemmas.List.Recursion.{same_from_clauses}
 use Rattle.order.specs.First.{any}
-use Rattle.pairing.specs.declared.line.Line.{Line}
 
-pub any_yes : (passes : Line → Bool) (ls : List Line) (i : ℕ) (d : Line) → i < length ls → passes (get_or ls i d) ≡ true → any passes (drop i ls) ≡ true
-any_yes passes ls i d h p = ap (any passes) (drop_more ls i d h) ∙ ap (λ t. t || any passes (drop (i + 1) ls)) p
-
-pub any_no : (passes : Line → Bool) (ls : List Line) (i : ℕ) (d : Line) → i < length ls → passes (get_or ls i d) ≡ false → any passes (drop i ls) ≡ any passes (drop (i + 1) ls)
-any_no passes ls i d h p = ap (any passes) (drop_more ls i d h) ∙ ap (λ t. t || any passes (drop (i + 1) ls)) p
-
-pub any_end : (passes : Line → Bool) (ls : List Line) (i : ℕ) → length ls ≤ i → any passes (drop i ls) ≡ false
-any_end passes ls i h = ap (any passes) (drop_all i ls h)
+pub any_is : {X : Type 0} (passes : X → Bool) (xs : List X) → list_any passes xs ≡ any passes xs
+any_is passes = same_from_clauses (list_any passes) (any passes) (λ x found. passes x || found) refl (λ _ _. refl) (λ _ _. refl)

@@ -12,3 +12,7 @@ most_64 = 18446744073709551615
 -- Nets and claims have 64 bits with a sign.
 abbrev pub most_63 : ℕ
 most_63 = 9223372036854775807
+
+-- Sums have 128 bits until they are told.
+abbrev pub most_128 : ℕ
+most_128 = 340282366920938463463374607431768211455

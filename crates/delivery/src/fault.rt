@@ -8,7 +8,7 @@ use rules::fault::Cause;
 use rules::side::Side;
 
 // What a register refused, whole. Whoever made the call receives it.
-#[derive(Clone, Copy)]
+#[derive(Clone, Copy, PartialEq, Eq, Debug)]
 pub struct SideFault {
     pub side: Side,
     pub fault: RegisterFault,
@@ -18,10 +18,7 @@ pub struct SideFault {
 pub fn on(side: Side, answer: Result<(), RegisterFault>) -> Result<(), SideFault>
     ensures side_is_told { result ≡ on_side side answer }
 {
-    match answer {
-        Ok(()) => Ok(()),
-        Err(fault) => Err(SideFault { side, fault }),
-    }
+    answer.map_err(|fault| SideFault { side, fault })
 }
 
 // A side's refusal comes up whole as the cause of a refused call.

@@ -10,7 +10,7 @@ use book::book::Book;
 use pairing::line::Line;
 
 // The two holders of a line. Units that a buyer gets are settled, units that a seller gets are returned.
-#[derive(Clone, Copy)]
+#[derive(Clone, Copy, PartialEq, Eq, Debug)]
 pub enum Party {
     Buyer,
     Seller,
@@ -27,19 +27,13 @@ pub fn inside(line: &Line) -> u32
 }
 
 // The payment agent of the holder in a row; 0 where there is nobody.
+// No Option: the rules give nobody agent 0, so both uses, a number compared and an account, would make None 0 again.
 fn agent_of(book: &Book, row: usize) -> usize
     ensures { result ≡ (holder (contents book.now) row).agent }
 {
-    let holders = book.holders();
-    if row == 0 {
-        return 0;
-    }
-    let place = row - 1;
-    if place < holders.len() {
-        usize::from(holders[place].agent)
-    } else {
-        0
-    }
+    row.checked_sub(1)
+        .and_then(|place| book.holders().get(place))
+        .map_or(0, |holder| usize::from(holder.agent))
 }
 
 impl Party {
@@ -59,12 +53,8 @@ impl Party {
     {
         let contracts = inside(line);
         match self {
-            Party::Buyer => {
-                line.settled += contracts;
-            }
-            Party::Seller => {
-                line.returned += contracts;
-            }
+            Party::Buyer => line.settled += contracts,
+            Party::Seller => line.returned += contracts,
         }
     }
 

@@ -4,21 +4,22 @@ ghost use Rattle.register.specs.Registers.{meaning};
 ghost use Rattle.register.specs.Rules.{transfer_answer, after_transfer};
 ghost use Rattle.rules.specs.declared.side.Side.TheVariants.{Cash};
 ghost use Rattle.rules.specs.Tally.{house, cash_asset};
-ghost use Rattle.delivery.specs.Parties.{to_buyer, to_seller};
+ghost use Rattle.delivery.specs.Parties.{to_seller};
 ghost use Rattle.delivery.specs.Handing.{HandsOut, HandsOn, PaysCash, paid_agents};
 ghost use Rattle.rules.specs.Postings.{pays};
 
 use crate::fault::{SideFault, on};
 use crate::party::{Party, inside};
 use crate::taking::{CASH, HOUSE};
+use book::limits::MOST_AGENT;
 use pairing::line::Line;
 use register::balances::Balances;
 use register::fault::RegisterFault;
 use register::transfers::Transfers;
 use rules::side::Side;
 
-// Places for amounts by agent: agents are numbered from 1, and no book has one above 64.
-pub const AGENT_PLACES: usize = 65;
+// Places for amounts by agent: agents are numbered from 1, and place 0 is nobody's.
+pub const AGENT_PLACES: usize = MOST_AGENT as usize + 1;
 
 // Pays an amount out of the house's account; nothing where it is 0.
 pub(crate) fn pay<R: Transfers>(
@@ -57,7 +58,7 @@ pub(crate) fn hand_on<S: Transfers>(
 }
 
 // Hands the units of all contracts in to the receiver of their line, in line order.
-fn hand_out<S: Transfers>(
+pub(crate) fn hand_out<S: Transfers>(
     lines: &mut [Line],
     to: Party,
     multiplier: u32,
@@ -70,18 +71,6 @@ fn hand_out<S: Transfers>(
         hand_on(line, to, multiplier, securities)?;
     }
     Ok(())
-}
-
-// Delivers the units of all contracts in to their buyers, and counts them as settled.
-pub(crate) fn settle_units<S: Transfers>(
-    lines: &mut [Line],
-    multiplier: u32,
-    securities: &mut S,
-) -> Result<(), SideFault>
-    ensures settles_where_no_move_is_refused { HandsOut to_buyer multiplier lines.old lines.new (meaning S.Balances securities.old) (meaning S.Balances securities.new) result }
-    ensures memory_is_kept { S.Balances.lender securities.new ≡ S.Balances.lender securities.old }
-{
-    hand_out(lines, Party::Buyer, multiplier, securities)
 }
 
 // Gives the units of all contracts in back to their sellers, and counts them as returned.
@@ -101,8 +90,7 @@ fn pay_agent<C: Transfers>(cash: &mut C, agent: usize, amount: u64) -> Result<()
     ensures pays { PaysCash (pays Cash agent cash_asset amount) (meaning C.Balances cash.old) (meaning C.Balances cash.new) result }
     ensures memory_is_kept { C.Balances.lender cash.new ≡ C.Balances.lender cash.old }
 {
-    on(Side::Cash, pay(cash, agent, CASH, amount))?;
-    Ok(())
+    on(Side::Cash, pay(cash, agent, CASH, amount))
 }
 
 // Pays each agent its amount of cash, by ascending number; nothing where it is 0. Place 0 is nobody's.
@@ -113,8 +101,8 @@ pub fn pay_agents<C: Transfers>(
     ensures pays_where_no_move_is_refused { PaysCash (paid_agents amounts.now) (meaning C.Balances cash.old) (meaning C.Balances cash.new) result }
     ensures memory_is_kept { C.Balances.lender cash.new ≡ C.Balances.lender cash.old }
 {
-    for agent in 1..AGENT_PLACES {
-        pay_agent(cash, agent, amounts[agent])?;
+    for (agent, amount) in amounts.iter().enumerate().skip(1) {
+        pay_agent(cash, agent, *amount)?;
     }
     Ok(())
 }

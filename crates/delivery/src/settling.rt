@@ -4,9 +4,8 @@ ghost use Rattle.register.specs.Registers.{meaning};
 ghost use Rattle.register.specs.Rules.{transfer_answer, after_transfer};
 ghost use Rattle.book.specs.Data.{contents};
 ghost use Rattle.delivery.specs.Widths.{most_64};
-ghost use Rattle.pairing.specs.Lines.{buyer_agent, seller_agent};
 ghost use Rattle.rules.specs.declared.side.Side.TheVariants.{Cash};
-ghost use Rattle.rules.specs.Tally.{house, cash_asset};
+ghost use Rattle.rules.specs.Tally.{cash_asset};
 ghost use Rattle.delivery.specs.Sides.{on_side};
 ghost use Rattle.delivery.specs.Settling.{worth as worth_of, line_cash, PaysFor, Settles, UnpaidStays};
 
@@ -17,7 +16,6 @@ use crate::taking::{CASH, HOUSE};
 use book::book::Book;
 use pairing::line::Line;
 use register::balances::Balances;
-use register::fault::RegisterFault;
 use register::transfers::Transfers;
 use rules::side::Side;
 
@@ -25,55 +23,24 @@ use rules::side::Side;
 pub(crate) fn narrowed(amount: u128) -> u64
     ensures { result ≡ min amount most_64 }
 {
-    amount.min(u128::from(u64::MAX)) as u64
+    u64::try_from(amount).unwrap_or(u64::MAX)
 }
 
-// Moves an amount of any width. No balance comes near the most that 64 bits hold, so that what is wider is as short as that.
-fn shift<R: Transfers>(
-    register: &mut R,
+// Moves an amount of cash of any width. No balance comes near the most that 64 bits hold, so that what is wider is as short
+// as that.
+fn shift<C: Transfers>(
+    cash: &mut C,
     giver: usize,
     taker: usize,
-    asset: usize,
-    amount: u128,
-) -> Result<(), RegisterFault>
-    ensures answers_by_the_rules { result ≡ transfer_answer (meaning R.Balances register.old) giver taker asset amount }
-    ensures meaning_follows_the_rules { meaning R.Balances register.new ≡ after_transfer (meaning R.Balances register.old) giver taker asset amount }
-    ensures memory_is_kept { R.Balances.lender register.new ≡ R.Balances.lender register.old }
-{
-    register.transfer(giver, taker, asset, narrowed(amount))
-}
-
-// Moves an amount from the agent of a line's buyer to the house.
-fn collect<C: Transfers>(
-    book: &Book,
-    line: &Line,
-    cash: &mut C,
     amount: u128,
 ) -> Result<(), SideFault>
-    ensures answers_by_the_rules { result ≡ on_side Cash (transfer_answer (meaning C.Balances cash.old) (buyer_agent (contents book.now) line.now) house cash_asset amount) }
-    ensures meaning_follows_the_rules { meaning C.Balances cash.new ≡ after_transfer (meaning C.Balances cash.old) (buyer_agent (contents book.now) line.now) house cash_asset amount }
+    ensures answers_by_the_rules { result ≡ on_side Cash (transfer_answer (meaning C.Balances cash.old) giver taker cash_asset amount) }
+    ensures meaning_follows_the_rules { meaning C.Balances cash.new ≡ after_transfer (meaning C.Balances cash.old) giver taker cash_asset amount }
     ensures memory_is_kept { C.Balances.lender cash.new ≡ C.Balances.lender cash.old }
 {
     on(
         Side::Cash,
-        shift(cash, Party::Buyer.agent(book, line), HOUSE, CASH, amount),
-    )
-}
-
-// Moves an amount from the house to the agent of a line's seller.
-fn pass_on<C: Transfers>(
-    book: &Book,
-    line: &Line,
-    cash: &mut C,
-    amount: u128,
-) -> Result<(), SideFault>
-    ensures answers_by_the_rules { result ≡ on_side Cash (transfer_answer (meaning C.Balances cash.old) house (seller_agent (contents book.now) line.now) cash_asset amount) }
-    ensures meaning_follows_the_rules { meaning C.Balances cash.new ≡ after_transfer (meaning C.Balances cash.old) house (seller_agent (contents book.now) line.now) cash_asset amount }
-    ensures memory_is_kept { C.Balances.lender cash.new ≡ C.Balances.lender cash.old }
-{
-    on(
-        Side::Cash,
-        shift(cash, HOUSE, Party::Seller.agent(book, line), CASH, amount),
+        cash.transfer(giver, taker, CASH, narrowed(amount)),
     )
 }
 
@@ -90,24 +57,8 @@ fn pay_for<C: Transfers>(book: &Book, line: &Line, cash: &mut C) -> Result<(), S
     ensures memory_is_kept { C.Balances.lender cash.new ≡ C.Balances.lender cash.old }
 {
     let amount = worth(book, line);
-    collect(book, line, cash, amount)?;
-    pass_on(book, line, cash, amount)?;
-    Ok(())
-}
-
-fn settle_one<S: Transfers, C: Transfers>(
-    book: &Book,
-    line: &mut Line,
-    securities: &mut S,
-    cash: &mut C,
-) -> Result<(), SideFault>
-    ensures settles_where_no_move_is_refused { Settles (contents book.now) line.old line.new (meaning S.Balances securities.old) (meaning S.Balances securities.new) (meaning C.Balances cash.old) (meaning C.Balances cash.new) result }
-    ensures refused_moves_nothing { UnpaidStays (contents book.now) line.old line.new (meaning S.Balances securities.old) (meaning S.Balances securities.new) (meaning C.Balances cash.old) (meaning C.Balances cash.new) result }
-    ensures memory_is_kept { (S.Balances.lender securities.new ≡ S.Balances.lender securities.old) × (C.Balances.lender cash.new ≡ C.Balances.lender cash.old) }
-{
-    pay_for(book, line, cash)?;
-    hand_on(line, Party::Buyer, book.terms().multiplier, securities)?;
-    Ok(())
+    shift(cash, Party::Buyer.agent(book, line), HOUSE, amount)?;
+    shift(cash, HOUSE, Party::Seller.agent(book, line), amount)
 }
 
 // Settles the contracts in of one line: the value of them goes from the buyer's agent through the house to the seller's
@@ -122,5 +73,6 @@ pub fn settle_line<S: Transfers, C: Transfers>(
     ensures refused_moves_nothing { UnpaidStays (contents book.now) line.old line.new (meaning S.Balances securities.old) (meaning S.Balances securities.new) (meaning C.Balances cash.old) (meaning C.Balances cash.new) result }
     ensures memory_is_kept { (S.Balances.lender securities.new ≡ S.Balances.lender securities.old) × (C.Balances.lender cash.new ≡ C.Balances.lender cash.old) }
 {
-    settle_one(book, line, securities, cash)
+    pay_for(book, line, cash)?;
+    hand_on(line, Party::Buyer, book.terms().multiplier, securities)
 }

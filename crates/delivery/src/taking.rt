@@ -1,5 +1,6 @@
 // What comes in to the house: the units of contracts taken, and draws of cash.
-ghost use Rattle.std.specs.Prelude.{◌≡◌, ◌-◌, ◌*◌, ◌/◌, min, not, ltb, if◌then◌else◌, nat_lt};
+ghost use Rattle.std.specs.Prelude.{◌≡◌, ◌+◌, ◌-◌, ◌≤◌, ◌*◌, ◌/◌, min, map, not, ltb, nat_lt};
+ghost use Rattle.std.specs.List.{list_any, fold, filter};
 ghost use Rattle.order.specs.First.{any};
 ghost use Rattle.register.specs.Registers.{meaning};
 ghost use Rattle.register.specs.Rules.{transfer_refused, transfer_answer, after_transfer, unless_refused};
@@ -21,21 +22,60 @@ pub const HOUSE: usize = 0;
 // In the cash register the asset that is cash.
 pub const CASH: usize = 0;
 
-// Whether a line is of the seller in a row and of an asset.
-fn is_of(line: &Line, row: usize, asset: usize) -> bool
-    ensures { result ≡ of_seller row asset line.now }
+// The contracts of a line not yet taken.
+fn open_of(line: &Line) -> u32
+    ensures contracts_less_taken { result ≡ open_on line.now }
+    ensures room_to_take_them { line.now.taken + result ≤ most_32 }
 {
-    usize::from(line.seller) == row && usize::from(line.asset) == asset
+    line.contracts.saturating_sub(line.taken)
 }
 
-// The contracts of a line not yet taken, where it is of the seller and the asset.
-fn open_of(line: &Line, row: usize, asset: usize) -> u32
-    ensures { result ≡ (if of_seller row asset line.now then open_on line.now else 0) }
-{
-    if is_of(line, row, asset) {
-        line.contracts.saturating_sub(line.taken)
-    } else {
-        0
+// What the seller in a row delivers of an asset.
+#[derive(Clone, Copy)]
+struct Lot {
+    row: usize,
+    asset: usize,
+}
+
+impl Lot {
+    // Whether a line is of the seller and the asset.
+    fn has(&self, line: &Line) -> bool
+        ensures { result ≡ of_seller self.now.row self.now.asset line.now }
+    {
+        usize::from(line.seller) == self.row && usize::from(line.asset) == self.asset
+    }
+
+    // The contracts of its lines that are not yet taken, or the most that 32 bits hold.
+    fn open_in(&self, lines: &[Line]) -> u32
+        ensures { result ≡ fold (λ sum contracts. min (sum + contracts) most_32) 0 (map open_on (filter (of_seller self.now.row self.now.asset) lines.now)) }
+    {
+        lines
+            .iter()
+            .filter(|line| self.has(line))
+            .map(open_of)
+            .fold(0, u32::saturating_add)
+    }
+
+    // Takes as many of the contracts left on the line as are open there, and tells how many stay.
+    fn load(&self, line: &mut Line, left: u32) -> u32
+        ensures { (line.new ≡ loaded self.now.row self.now.asset left line.old) × (result ≡ left - here self.now.row self.now.asset left line.old) }
+    {
+        if !self.has(line) {
+            return left;
+        }
+        let taken = left.min(open_of(line));
+        line.taken += taken;
+        left - taken
+    }
+
+    // Counts contracts as taken on its lines, in line order.
+    fn spread(&self, lines: &mut [Line], contracts: u32)
+        ensures { lines.new ≡ take_on self.now.row self.now.asset contracts lines.old }
+    {
+        let mut left = contracts;
+        for line in lines.iter_mut() {
+            left = self.load(line, left);
+        }
     }
 }
 
@@ -44,44 +84,17 @@ fn open_of(line: &Line, row: usize, asset: usize) -> u32
 pub fn outstanding(lines: &[Line], row: usize, asset: usize) -> u32
     ensures all_that_are_open { result ≡ min (outstanding_of lines.now row asset) most_32 }
 {
-    let mut sum: u32 = 0;
-    for line in lines {
-        sum = sum.saturating_add(open_of(line, row, asset));
-    }
-    sum
-}
-
-// Takes as many of the contracts left on the line as are open there, and tells how many stay.
-fn load(line: &mut Line, row: usize, asset: usize, left: u32) -> u32
-    ensures { (line.new ≡ loaded row asset left line.old) × (result ≡ left - here row asset left line.old) }
-{
-    if !is_of(line, row, asset) {
-        return left;
-    }
-    let taken = left.min(line.contracts.saturating_sub(line.taken));
-    line.taken += taken;
-    left - taken
-}
-
-// Counts contracts as taken on the seller's lines of an asset, in line order.
-pub(crate) fn spread(lines: &mut [Line], row: usize, asset: usize, contracts: u32)
-    ensures taken_in_line_order { lines.new ≡ take_on row asset contracts lines.old }
-{
-    let mut left = contracts;
-    for line in lines.iter_mut() {
-        left = load(line, row, asset, left);
-    }
+    Lot { row, asset }.open_in(lines)
 }
 
 // How many contracts of a seller the units that it holds of an asset cover: none where there are no units to a contract.
 pub fn covered<S: Balances>(securities: &S, row: usize, asset: usize, multiplier: u32) -> u64
     ensures whole_contracts { result ≡ (meaning S.Balances securities.now).balance row asset / multiplier }
 {
-    if multiplier == 0 {
-        0
-    } else {
-        securities.balance_of(row, asset) / u64::from(multiplier)
-    }
+    securities
+        .balance_of(row, asset)
+        .checked_div(u64::from(multiplier))
+        .unwrap_or(0)
 }
 
 // Moves the units of some contracts from the seller's account to the house's, and counts them as taken; a refusal leaves
@@ -104,27 +117,23 @@ pub fn take<S: Transfers>(
         Side::Securities,
         securities.transfer(row, HOUSE, asset, units),
     )?;
-    spread(lines, row, asset, contracts);
+    Lot { row, asset }.spread(lines, contracts);
     Ok(())
 }
 
 // Whether a line has contracts left to be taken.
-fn is_open(line: &Line) -> bool
-    ensures { result ≡ nat_lt 0 (open_on line.now) }
+fn any_open(lines: &[Line]) -> bool
+    ensures { result ≡ list_any (λ l. nat_lt 0 (open_on l)) lines.now }
 {
-    line.taken < line.contracts
+    lines.iter().any(|line| line.taken < line.contracts)
 }
 
 // Whether no line has contracts left to be taken.
+#[tactic(auto, using(crate::proofs::OpenLines::any_is))]
 pub fn all_taken(lines: &[Line]) -> bool
     ensures none_is_open { result ≡ not (any (λ l. ltb 0 (open_on l)) lines.now) }
 {
-    for line in lines {
-        if is_open(line) {
-            return false;
-        }
-    }
-    true
+    !any_open(lines)
 }
 
 // Moves an amount of cash from an agent's account to the house's; a refusal leaves the register as it was.

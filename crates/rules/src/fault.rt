@@ -30,6 +30,7 @@ pub enum Cause {
 }
 
 impl Cause {
+    // By a match: a part or a side does not change the number, and a register's refusal has its own.
     pub fn number(&self) -> u8
         ensures told_by_its_number { result ≡ number self.now }
     {
@@ -72,6 +73,7 @@ pub enum OpeningFault {
 }
 
 impl OpeningFault {
+    // By a match: a part or a side does not change the number.
     pub fn number(&self) -> u8
         ensures told_by_its_number { result ≡ opening_number self.now }
     {

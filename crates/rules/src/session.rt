@@ -18,6 +18,7 @@ pub enum Session {
 }
 
 impl Session {
+    // By a match and not by the places of the variants, so that a wrong number is refused by the contract.
     pub fn number(&self) -> u8
         ensures told_by_its_number { result ≡ session_number self.now }
     {

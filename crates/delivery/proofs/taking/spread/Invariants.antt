@@ -1,6 +1,0 @@
-use Rattle.std.proofs.Common.{◌≡◌, ◌++◌, take, drop}
-use Rattle.rules.specs.Tally.{take_on}
-use Rattle.delivery.proofs.taking.spread.Given as goal
-
-abbrev pub invariant-loop-line : goal.invariant-loop-line
-invariant-loop-line l = take l.line-index l.lines ++ take_on l.row l.asset l.left (drop l.line-index l.lines) ≡ take_on l.row l.asset l.contracts l.initial.lines
