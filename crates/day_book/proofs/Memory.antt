@@ -2,13 +2,11 @@
 use Rattle.std.proofs.Common.{◌≡◌, ℕ, ◌*◌, ◌<◌, List, set, Some, None, Option, sym, refl, ap, ◌∙◌, subst, mul_comm, arith, length-set}
 use Rattle.std.proofs.lemmas.List.{get_or-set_other}
 use Rattle.std.proofs.lemmas.Nat.{mul-add-lt}
-use Rattle.register.specs.Rules.{Meaning, Lawful, unless_refused, credit_refused, transfer_refused}
+use Rattle.register.specs.Rules.{Meaning, unless_refused, credit_refused, transfer_refused}
 use Rattle.register.specs.declared.instruction.Instruction.{Instruction}
 use Rattle.register.specs.Instructions.{after_all}
 use Rattle.register.proofs.Lawfuls.{all_accounts, all_assets}
 use Rattle.register.proofs.Meanings.{credit_told, move_told}
-use Rattle.table_register.specs.declared.table.TableRegister.{TableRegister}
-use Rattle.table_register.specs.TableMeaning.{means as register_means}
 use Rattle.table_register.specs.Table.{place, cell, table_meaning, credited_cells, moved_cells}
 use Rattle.day_book.specs.DayTable.{LaterPlacesStay, Posted}
 
@@ -54,21 +52,9 @@ size_of m = m.accounts * m.assets
 pub all_size : (m : Meaning) (es : List Instruction) → size_of (after_all m es) ≡ size_of m
 all_size m es = ap (λ n. n * (after_all m es).assets) (all_accounts m es) ∙ ap (λ n. m.accounts * n) (all_assets m es)
 
--- memory that came to the balances of a register of the same counts, and whose later places stay
-pub posted_all : (cells cells' : List ℕ) (accounts assets : ℕ) (issues' : List ℕ) (m : Meaning) → table_meaning cells' accounts assets issues' ≡ m → LaterPlacesStay (accounts * assets) cells cells' → Posted m cells cells'
-posted_all cells cells' accounts assets issues' m same stay = record {
+-- memory that came to the balances of a register, and whose later places stay
+pub posted_all : (cells cells' : List ℕ) (accounts assets : ℕ) (issues' : List ℕ) (m : Meaning) (es : List Instruction) → table_meaning cells' accounts assets issues' ≡ after_all m es → LaterPlacesStay (m.accounts * m.assets) cells cells' → Posted (after_all m es) cells cells'
+posted_all cells cells' accounts assets issues' m es same stay = record {
   tells = λ a s. ap (λ (k : Meaning). cell cells' k.accounts k.assets a s) (sym same) ∙ ap (λ (k : Meaning). k.balance a s) same;
-  later = subst (λ (k : Meaning). LaterPlacesStay (k.accounts * k.assets) cells cells') same stay;
+  later = subst (λ (n : ℕ). LaterPlacesStay n cells cells') (sym (all_size m es)) stay;
 }
-
--- what a table register over the memory comes to mean, the memory and its issues tell
-module _ (y : TableRegister) (cells' : List ℕ) (accounts assets : ℕ) (m : Meaning) (here : cells' ≡ y.cells.now) (same : register_means y ≡ m) (rows : m.accounts ≡ accounts) (columns : m.assets ≡ assets) where
-  pub told : table_meaning cells' accounts assets y.issues ≡ m
-  told =
-      ap (λ l. table_meaning l accounts assets y.issues) here
-      ∙ ap (λ n. table_meaning y.cells.now n assets y.issues) (sym rows ∙ sym (ap (λ (k : Meaning). k.accounts) same))
-      ∙ ap (λ n. table_meaning y.cells.now y.accounts n y.issues) (sym columns ∙ sym (ap (λ (k : Meaning). k.assets) same))
-      ∙ same
-
-  pub told_lawful : Lawful m → Lawful (table_meaning cells' accounts assets y.issues)
-  told_lawful lawful = subst Lawful (sym told) lawful

@@ -9,7 +9,7 @@ use Rattle.day_book.specs.DayTable.{waits}
 
 -- What its memory and posted issues mean as a table register,
 abbrev pub posted_means : DayBook → Meaning
-posted_means x = table_meaning x.cells.now x.accounts x.assets x.issues
+posted_means x = table_meaning x.cells.now x.counts.accounts x.counts.assets x.counts.issues
 
 -- and what that register means once each entry that waits is carried out in it, the oldest first.
 abbrev pub means : DayBook → Meaning
@@ -17,7 +17,7 @@ means x = after_all (posted_means x) (waits x.entries)
 
 -- The register of the posted balances is lawful, so a day book is.
 pub posted_lawful : (x : DayBook) → Lawful (posted_means x)
-posted_lawful x = table_lawful x.cells.now x.accounts x.assets x.issues x.covered x.bounded
+posted_lawful x = table_lawful x.cells.now x.counts.accounts x.counts.assets x.counts.issues x.covered x.counts.bounded
 
 pub day_lawful : (x : DayBook) → Lawful (means x)
 day_lawful x = all_lawful (posted_means x) (waits x.entries) (posted_lawful x)

@@ -101,6 +101,13 @@ module _ (cells : List ℕ) (accounts assets account asset p : ℕ) (size : acco
       (λ ne. grind (arith, nat_tests, sums, added, rose, before))
       (cases_eq s asset)
 
+  -- an issue that was raised covers what it covered
+  pub raised_covered : (issues : List ℕ) (amount : ℕ) → asset < length issues → Covered cells accounts assets issues → Covered cells accounts assets (set issues asset (get_or issues asset 0 + amount))
+  raised_covered issues amount hl covered s =
+      let rose = credit_issue issues amount hl s in
+      let before = covered s in
+      grind (arith, nat_tests, rose, before)
+
   pub credit_bounded : (issues : List ℕ) (amount : ℕ) → asset < length issues → get_or issues asset 0 + amount ≤ most → Bounded assets issues → Bounded assets (set issues asset (get_or issues asset 0 + amount))
   credit_bounded issues amount hl fits bounded s =
       let rose = issued_set issues assets asset (get_or issues asset 0 + amount) hs hl s in

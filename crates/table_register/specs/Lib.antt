@@ -2,3 +2,4 @@ pub mod Table
 pub mod Lawful
 pub mod Make
 pub mod TableMeaning
+pub mod Laid

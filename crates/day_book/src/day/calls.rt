@@ -4,7 +4,7 @@ ghost use Rattle.register.specs.Rules.{credit_refused, transfer_refused, credit_
 ghost use Rattle.register.specs.Instructions.{instruction_answer, after_instruction};
 ghost use Rattle.day_book.specs.Entering.{most_entries, a_credit, a_move, full, with_entry, entries_after, posts};
 ghost use Rattle.day_book.specs.DayTable.{waits, MemoryAfter};
-ghost use Rattle.day_book.specs.DayMeaning.{means, posted_means, day_lawful};
+ghost use Rattle.day_book.specs.DayMeaning.{means, day_lawful};
 
 use crate::day::DayBook;
 use crate::entries::{added, applied};
@@ -15,31 +15,11 @@ use register::instruction::Instruction;
 use register::transfers::Transfers;
 
 impl DayBook<'_> {
-    // The balance that stands in the memory.
-    fn posted_balance(&self, account: usize, asset: usize) -> u64
-        ensures { result ≡ (posted_means self.now).balance account asset }
-    {
-        if account >= self.accounts || asset >= self.assets {
-            return 0;
-        }
-        self.cells[account * self.assets + asset]
-    }
-
-    // The issue of what stands in the memory.
-    fn posted_issue(&self, asset: usize) -> u64
-        ensures { result ≡ (posted_means self.now).issue asset }
-    {
-        if asset >= self.assets {
-            return 0;
-        }
-        self.issues[asset]
-    }
-
     // The posted balance with the entries applied.
     fn balance_with_entries(&self, account: usize, asset: usize) -> u64
         ensures { result ≡ (means self.now).balance account asset }
     {
-        let mut balance = self.posted_balance(account, asset);
+        let mut balance = self.counts.balance_in(self.cells, account, asset);
         for entry in self.entries.iter() {
             balance = applied(*entry, account, asset, balance);
         }
@@ -50,7 +30,7 @@ impl DayBook<'_> {
     fn issue_with_entries(&self, asset: usize) -> u64
         ensures { result ≡ (means self.now).issue asset }
     {
-        let mut issue = self.posted_issue(asset);
+        let mut issue = self.counts.issue_of(asset);
         for entry in self.entries.iter() {
             issue += added(*entry, asset);
         }
@@ -73,12 +53,12 @@ impl Balances for DayBook<'_> {
 
     #[tactic(auto, using(register::proofs::Lawfuls::all_accounts))]
     fn account_count(&self) -> usize {
-        self.accounts
+        self.counts.accounts
     }
 
     #[tactic(auto, using(register::proofs::Lawfuls::all_assets))]
     fn asset_count(&self) -> usize {
-        self.assets
+        self.counts.assets
     }
 
     fn balance_of(&self, account: usize, asset: usize) -> u64 {

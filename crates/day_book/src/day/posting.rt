@@ -1,24 +1,22 @@
 // Posting: the entries that wait are carried out in the register of the posted balances, the oldest first.
 ghost use Rattle.std.specs.Prelude.{◌≡◌, ◌*◌, ◌≤◌, [], length};
-ghost use Rattle.register.specs.Rules.{Lawful};
 ghost use Rattle.register.specs.Instructions.{after_instruction, after_all};
-ghost use Rattle.table_register.specs.Make.{most_accounts, most_assets};
-ghost use Rattle.table_register.specs.Table.{table_meaning};
+ghost use Rattle.table_register.specs.Table.{Covered, table_meaning};
 ghost use Rattle.table_register.specs.TableMeaning.{means as posted_means};
 ghost use Rattle.day_book.specs.DayTable.{waits, LaterPlacesStay, Posted};
 ghost use Rattle.day_book.specs.DayMeaning.{means};
 
 use crate::day::DayBook;
 use register::instruction::Instruction;
-use register::limits::MOST_ASSETS;
 use register::transfers::Transfers;
+use table_register::counts::Counts;
 use table_register::table::TableRegister;
 
 // Posts an entry. Each call is made here, and not by `carry_out`: that, for registers of any make, does not tell that
 // the later places of the memory stay.
 fn post_entry(posted: &mut TableRegister<'_>, entry: Instruction)
     ensures meaning { posted_means posted.new ≡ after_instruction (posted_means posted.old) entry }
-    ensures later { LaterPlacesStay (posted.old.accounts * posted.old.assets) posted.old.cells.now posted.new.cells.now }
+    ensures later { LaterPlacesStay (posted.old.counts.accounts * posted.old.counts.assets) posted.old.cells.now posted.new.cells.now }
     ensures lender { posted.new.cells.ghost_name ≡ posted.old.cells.ghost_name }
 {
     let _ = match entry {
@@ -39,7 +37,7 @@ fn post_entry(posted: &mut TableRegister<'_>, entry: Instruction)
 // Posts the entries, the oldest first.
 fn post_each(posted: &mut TableRegister<'_>, entries: &[Instruction])
     ensures meaning { posted_means posted.new ≡ after_all (posted_means posted.old) entries.now }
-    ensures later { LaterPlacesStay (posted.old.accounts * posted.old.assets) posted.old.cells.now posted.new.cells.now }
+    ensures later { LaterPlacesStay (posted.old.counts.accounts * posted.old.counts.assets) posted.old.cells.now posted.new.cells.now }
     ensures lender { posted.new.cells.ghost_name ≡ posted.old.cells.ghost_name }
 {
     for entry in entries {
@@ -47,29 +45,18 @@ fn post_each(posted: &mut TableRegister<'_>, entries: &[Instruction])
     }
 }
 
-// Lends the memory to a table register, which posts the entries, and tells the issues that it came to.
-fn post_in(
-    cells: &mut [u64],
-    accounts: usize,
-    assets: usize,
-    issues: [u64; MOST_ASSETS],
-    entries: &[Instruction],
-) -> [u64; MOST_ASSETS]
-    requires few { (accounts ≤ most_accounts) × (assets ≤ most_assets) }
-    requires size { accounts * assets ≤ length cells.old }
-    requires lawful { Lawful (table_meaning cells.old accounts assets issues) }
-    ensures meaning { table_meaning cells.new accounts assets result ≡ after_all (table_meaning cells.old accounts assets issues) entries.now }
-    ensures later { LaterPlacesStay (accounts * assets) cells.old cells.new }
-    ensures lawful { Lawful (table_meaning cells.new accounts assets result) }
+// Lends the memory to a table register, which posts the entries, and tells the counts that it came to.
+fn post_in(cells: &mut [u64], counts: Counts, entries: &[Instruction]) -> Counts
+    requires size { counts.accounts * counts.assets ≤ length cells.old }
+    requires covered { Covered cells.old counts.accounts counts.assets counts.issues }
+    ensures meaning { table_meaning cells.new result.accounts result.assets result.issues ≡ after_all (table_meaning cells.old counts.accounts counts.assets counts.issues) entries.now }
+    ensures size { result.accounts * result.assets ≤ length cells.new }
+    ensures covered { Covered cells.new result.accounts result.assets result.issues }
+    ensures later { LaterPlacesStay (counts.accounts * counts.assets) cells.old cells.new }
 {
-    let mut posted = TableRegister {
-        cells,
-        accounts,
-        assets,
-        issues,
-    };
+    let mut posted = TableRegister { cells, counts };
     post_each(&mut posted, entries);
-    posted.issues
+    posted.counts
 }
 
 impl DayBook<'_> {
@@ -80,13 +67,7 @@ impl DayBook<'_> {
         ensures lender { self.new.cells.ghost_name ≡ self.old.cells.ghost_name }
     {
         let entries = self.entries.take();
-        self.issues = post_in(
-            self.cells,
-            self.accounts,
-            self.assets,
-            self.issues,
-            &entries,
-        );
+        self.counts = post_in(self.cells, self.counts, &entries);
     }
 
     // Posts what waits, so that the memory alone tells the balances.

@@ -13,32 +13,33 @@ use register::transfers::Transfers;
 
 impl TableRegister<'_> {
     fn place(&self, account: usize, asset: usize) -> usize
-        requires known { (account < self.now.accounts) × (asset < self.now.assets) }
-        ensures place { result ≡ account * self.now.assets + asset }
+        requires known { (account < self.now.counts.accounts) × (asset < self.now.counts.assets) }
+        ensures place { result ≡ account * self.now.counts.assets + asset }
         ensures inside { result < length self.now.cells.now }
     {
-        account * self.assets + asset
+        account * self.counts.assets + asset
     }
 
     // Enters an accepted credit.
     fn enter_credit(&mut self, account: usize, asset: usize, amount: u64)
         requires accepted { credit_refused (means self.old) account asset amount ≡ None }
         ensures meaning { means self.new ≡ with_credit (means self.old) account asset amount }
-        ensures memory { self.new.cells.now ≡ credited_cells self.old.cells.now self.old.assets account asset amount }
+        ensures memory { self.new.cells.now ≡ credited_cells self.old.cells.now self.old.counts.assets account asset amount }
         ensures lender { self.new.cells.ghost_name ≡ self.old.cells.ghost_name }
     {
         let place = self.place(account, asset);
         let held = self.cells[place];
-        let issued = self.issues[asset];
+        let issued = self.counts.issues[asset];
+        // The issue first: it covers the balances all the time.
+        self.counts.issues[asset] = issued + amount;
         self.cells[place] = held + amount;
-        self.issues[asset] = issued + amount;
     }
 
     // Enters an accepted move.
     fn enter_move(&mut self, giver: usize, taker: usize, asset: usize, amount: u64)
         requires accepted { transfer_refused (means self.old) giver taker asset amount ≡ None }
         ensures meaning { means self.new ≡ with_move (means self.old) giver taker asset amount }
-        ensures memory { self.new.cells.now ≡ moved_cells self.old.cells.now self.old.assets giver taker asset amount }
+        ensures memory { self.new.cells.now ≡ moved_cells self.old.cells.now self.old.counts.assets giver taker asset amount }
         ensures lender { self.new.cells.ghost_name ≡ self.old.cells.ghost_name }
     {
         let from = self.place(giver, asset);
@@ -51,39 +52,32 @@ impl TableRegister<'_> {
 }
 
 impl Balances for TableRegister<'_> {
-    ghost accounts = { λ x. x.accounts };
+    ghost accounts = { λ x. x.counts.accounts };
 
-    ghost assets = { λ x. x.assets };
+    ghost assets = { λ x. x.counts.assets };
 
-    ghost balance = { λ x. cell x.cells.now x.accounts x.assets };
+    ghost balance = { λ x. cell x.cells.now x.counts.accounts x.counts.assets };
 
-    ghost issue = { λ x. issued x.issues x.assets };
+    ghost issue = { λ x. issued x.counts.issues x.counts.assets };
 
-    ghost lawful = { λ x. table_lawful x.cells.now x.accounts x.assets x.issues x.covered x.bounded };
+    ghost lawful = { λ x. table_lawful x.cells.now x.counts.accounts x.counts.assets x.counts.issues x.covered x.counts.bounded };
 
     ghost lender = { λ x. x.cells.ghost_name };
 
     fn account_count(&self) -> usize {
-        self.accounts
+        self.counts.accounts
     }
 
     fn asset_count(&self) -> usize {
-        self.assets
+        self.counts.assets
     }
 
     fn balance_of(&self, account: usize, asset: usize) -> u64 {
-        if account >= self.accounts || asset >= self.assets {
-            return 0;
-        }
-        let place = self.place(account, asset);
-        self.cells[place]
+        self.counts.balance_in(self.cells, account, asset)
     }
 
     fn issue_of(&self, asset: usize) -> u64 {
-        if asset >= self.assets {
-            return 0;
-        }
-        self.issues[asset]
+        self.counts.issue_of(asset)
     }
 }
 
@@ -92,7 +86,7 @@ impl Transfers for TableRegister<'_> {
         ensures answers_by_the_rules { result ≡ credit_answer (means self.old) account asset amount }
         ensures meaning_follows_the_rules { means self.new ≡ after_credit (means self.old) account asset amount }
         ensures memory_is_kept { self.new.cells.ghost_name ≡ self.old.cells.ghost_name }
-        ensures memory_follows_the_rules { self.new.cells.now ≡ unless_refused (credit_refused (means self.old) account asset amount) (credited_cells self.old.cells.now self.old.assets account asset amount) self.old.cells.now }
+        ensures memory_follows_the_rules { self.new.cells.now ≡ unless_refused (credit_refused (means self.old) account asset amount) (credited_cells self.old.cells.now self.old.counts.assets account asset amount) self.old.cells.now }
     {
         check_credit(self, account, asset, amount)?;
         self.enter_credit(account, asset, amount);
@@ -109,7 +103,7 @@ impl Transfers for TableRegister<'_> {
         ensures answers_by_the_rules { result ≡ transfer_answer (means self.old) giver taker asset amount }
         ensures meaning_follows_the_rules { means self.new ≡ after_transfer (means self.old) giver taker asset amount }
         ensures memory_is_kept { self.new.cells.ghost_name ≡ self.old.cells.ghost_name }
-        ensures memory_follows_the_rules { self.new.cells.now ≡ unless_refused (transfer_refused (means self.old) giver taker asset amount) (moved_cells self.old.cells.now self.old.assets giver taker asset amount) self.old.cells.now }
+        ensures memory_follows_the_rules { self.new.cells.now ≡ unless_refused (transfer_refused (means self.old) giver taker asset amount) (moved_cells self.old.cells.now self.old.counts.assets giver taker asset amount) self.old.cells.now }
     {
         check_transfer(self, giver, taker, asset, amount)?;
         self.enter_move(giver, taker, asset, amount);

@@ -2,8 +2,10 @@
 ghost use Rattle.std.specs.Prelude.{◌≡◌, ℕ, ◌<◌, IfOk, None, slice_index};
 ghost use Rattle.register.specs.Rules.{answer, unless_refused};
 ghost use Rattle.table_register.specs.Make.{column, make_refused, lay_out_refused, refusal, memory_meaning, nothing};
+ghost use Rattle.table_register.specs.Laid.{LaidOut};
 ghost use Rattle.table_register.specs.TableMeaning.{means};
 
+use crate::counts::Counts;
 use crate::issues::issues_of;
 use crate::table::TableRegister;
 use register::fault::MakeFault;
@@ -18,46 +20,28 @@ impl<'a> TableRegister<'a> {
     {
         TableRegister {
             cells,
-            accounts: 0,
-            assets: 0,
-            issues: [0; MOST_ASSETS],
+            counts: Counts::none(),
         }
     }
 }
 
 impl TableRegister<'_> {
-    // The issues of the memory as a table of these counts. A register is laid out once.
-    fn counted(&self, accounts: usize, assets: usize) -> Result<[u64; MOST_ASSETS], MakeFault>
-        ensures fault { refusal result ≡ lay_out_refused self.now.accounts self.now.cells.now accounts assets }
-        ensures issues { IfOk result (λ k. ((s : ℕ) → s < assets → slice_index k s ≡ column self.now.cells.now accounts assets s)) }
+    fn counted(&self, accounts: usize, assets: usize) -> Result<Counts, MakeFault>
+        ensures fault { refusal result ≡ lay_out_refused self.now.counts.accounts self.now.cells.now accounts assets }
+        ensures laid_out { IfOk result (LaidOut self.now.cells.now accounts assets) }
     {
-        if self.accounts != 0 {
-            return Err(MakeFault::BadShape);
-        }
-        issues_of(self.cells, accounts, assets)
-    }
-
-    fn take(&mut self, accounts: usize, assets: usize, issues: [u64; MOST_ASSETS])
-        requires accepted { make_refused self.old.cells.now accounts assets ≡ None }
-        requires counted { (s : ℕ) → s < assets → slice_index issues s ≡ column self.old.cells.now accounts assets s }
-        ensures meaning { means self.new ≡ memory_meaning self.old.cells.now accounts assets }
-        ensures memory { self.new.cells.now ≡ self.old.cells.now }
-        ensures lender { self.new.cells.ghost_name ≡ self.old.cells.ghost_name }
-    {
-        self.accounts = accounts;
-        self.assets = assets;
-        self.issues = issues;
+        self.counts.laid_out(self.cells, accounts, assets)
     }
 
     // Lays the memory out as a table of these counts: its balances are those that stand there.
     pub fn lay_out(&mut self, accounts: usize, assets: usize) -> Result<(), MakeFault>
-        ensures answers_by_the_rules { result ≡ answer (lay_out_refused self.old.accounts self.old.cells.now accounts assets) }
-        ensures meaning_follows_the_rules { means self.new ≡ unless_refused (lay_out_refused self.old.accounts self.old.cells.now accounts assets) (memory_meaning self.old.cells.now accounts assets) (means self.old) }
+        ensures answers_by_the_rules { result ≡ answer (lay_out_refused self.old.counts.accounts self.old.cells.now accounts assets) }
+        ensures meaning_follows_the_rules { means self.new ≡ unless_refused (lay_out_refused self.old.counts.accounts self.old.cells.now accounts assets) (memory_meaning self.old.cells.now accounts assets) (means self.old) }
         ensures memory_is_as_it_was { self.new.cells.now ≡ self.old.cells.now }
         ensures memory_is_kept { self.new.cells.ghost_name ≡ self.old.cells.ghost_name }
     {
-        let issues = self.counted(accounts, assets)?;
-        self.take(accounts, assets, issues);
+        let counts = self.counted(accounts, assets)?;
+        self.counts = counts;
         Ok(())
     }
 }

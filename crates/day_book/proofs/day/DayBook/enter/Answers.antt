@@ -12,11 +12,8 @@ invariant_of-self c =
     let e = c.args.entry in
     let ok : instruction_answer (means y) e ≡ Ok tt = ap (λ k. instruction_answer k e) c.make_room.ensures.meaning ∙ c.requires.accepted in
     record {
-      few_accounts = y.few_accounts;
-      few_assets = y.few_assets;
       size = y.size;
       covered = y.covered;
-      bounded = y.bounded;
       accepted = ap (each_accepted (posted_means y)) c.push.ensures.items ∙ accepted_push (posted_means y) y.entries.items e y.accepted ok;
     }
 

@@ -18,7 +18,7 @@ loop-entry-preserved c =
     let m : Meaning = posted_means x in
     let inv = c.loop-entry.invariant in
     let o : Instruction = get_or es i (Credit 0 0 0) in
-    let size : y.accounts * y.assets ≡ x.accounts * x.assets = ap size_of inv.meaning ∙ all_size m (take i es) in
+    let size : y.counts.accounts * y.counts.assets ≡ x.counts.accounts * x.counts.assets = ap size_of inv.meaning ∙ all_size m (take i es) in
     record {
       meaning = c.post_entry.ensures.meaning ∙ ap (λ k. after_instruction k o) inv.meaning ∙ sym (all_more m es i (Credit 0 0 0) c.loop-entry-test.true);
       later = later_both _ _ _ _ inv.later (subst (λ (n : ℕ). LaterPlacesStay n y.cells.now c.post_entry.new.posted.cells.now) size c.post_entry.ensures.later);

@@ -2,7 +2,7 @@ use Rattle.std.proofs.Common.{◌+◌, ◌<◌, ◌≤◌, length, get_or, set, 
 use Rattle.register.specs.Rules.{most}
 use Rattle.table_register.specs.TableMeaning.{means}
 use Rattle.register.proofs.Meanings.{same_meaning, credit_told}
-use Rattle.table_register.proofs.Tables.{size_set, held_le, credit_cell, credit_issue, credit_covered, credit_bounded, issued_in}
+use Rattle.table_register.proofs.Tables.{size_set, held_le, credit_cell, credit_issue, credit_covered, raised_covered, credit_bounded, issued_in}
 use Rattle.table_register.proofs.table.TableRegister.enter_credit.Goals as goal
 
 pub place-place-requires : goal.place-place-requires
@@ -14,22 +14,34 @@ pub overflow_add-self : goal.overflow_add-self
 overflow_add-self c =
     let x = c.args.self.now in
     let told = credit_told (means x) c.args.account c.args.asset c.args.amount c.requires.accepted in
-    let le = held_le x.cells.now x.accounts x.assets c.args.account c.args.asset c.place-place.result x.size told.account_known told.asset_known c.place-place.ensures.place x.issues x.covered in
-    omega (arith, le, told.fits, issued_in x.issues x.assets c.args.asset told.asset_known)
+    omega (arith, told.fits, issued_in x.counts.issues x.counts.assets c.args.asset told.asset_known)
 
 pub invariant_of-self : goal.invariant_of-self
 invariant_of-self c =
     let x = c.args.self.now in
     let told = credit_told (means x) c.args.account c.args.asset c.args.amount c.requires.accepted in
     let at = c.place-place.ensures.place in
-    let hl : c.args.asset < length x.issues = search rules in
-    let fits : get_or x.issues c.args.asset 0 + c.args.amount ≤ most = omega (arith, told.fits, issued_in x.issues x.assets c.args.asset told.asset_known) in
+    let hl : c.args.asset < length x.counts.issues = search rules in
+    let fits : get_or x.counts.issues c.args.asset 0 + c.args.amount ≤ most = omega (arith, told.fits, issued_in x.counts.issues x.counts.assets c.args.asset told.asset_known) in
+    let bounded = credit_bounded x.cells.now x.counts.accounts x.counts.assets c.args.account c.args.asset c.place-place.result x.size told.account_known told.asset_known at x.counts.issues c.args.amount hl fits x.counts.bounded in
+    let covered = raised_covered x.cells.now x.counts.accounts x.counts.assets c.args.account c.args.asset c.place-place.result x.size told.account_known told.asset_known at x.counts.issues c.args.amount hl x.covered in
+    ((x.counts.few_accounts, (x.counts.few_assets, (bounded, tt))), (x.size, (covered, tt)))
+
+pub overflow_add-self-2 : goal.overflow_add-self-2
+overflow_add-self-2 c =
+    let x = c.args.self.now in
+    let told = credit_told (means x) c.args.account c.args.asset c.args.amount c.requires.accepted in
+    let le = held_le x.cells.now x.counts.accounts x.counts.assets c.args.account c.args.asset c.place-place.result x.size told.account_known told.asset_known c.place-place.ensures.place x.counts.issues x.covered in
+    omega (arith, le, told.fits, issued_in x.counts.issues x.counts.assets c.args.asset told.asset_known)
+
+pub invariant_of-self-2 : goal.invariant_of-self-2
+invariant_of-self-2 c =
+    let x = c.args.self.now in
+    let told = credit_told (means x) c.args.account c.args.asset c.args.amount c.requires.accepted in
+    let hl : c.args.asset < length x.counts.issues = search rules in
     record {
-      few_accounts = x.few_accounts;
-      few_assets = x.few_assets;
       size = size_set _ _ _ _ x.size;
-      covered = credit_covered x.cells.now x.accounts x.assets c.args.account c.args.asset c.place-place.result x.size told.account_known told.asset_known at x.issues c.args.amount hl x.covered;
-      bounded = credit_bounded x.cells.now x.accounts x.assets c.args.account c.args.asset c.place-place.result x.size told.account_known told.asset_known at x.issues c.args.amount hl fits x.bounded;
+      covered = credit_covered x.cells.now x.counts.accounts x.counts.assets c.args.account c.args.asset c.place-place.result x.size told.account_known told.asset_known c.place-place.ensures.place x.counts.issues c.args.amount hl x.covered;
     }
 
 pub returns : goal.returns
@@ -37,11 +49,11 @@ returns c =
     let x = c.args.self.now in
     let told = credit_told (means x) c.args.account c.args.asset c.args.amount c.requires.accepted in
     let at = c.place-place.ensures.place in
-    let hl : c.args.asset < length x.issues = search rules in
+    let hl : c.args.asset < length x.counts.issues = search rules in
     record {
       meaning = same_meaning _ _ refl refl
-          (credit_cell x.cells.now x.accounts x.assets c.args.account c.args.asset c.place-place.result x.size told.account_known told.asset_known at c.args.amount)
-          (credit_issue x.cells.now x.accounts x.assets c.args.account c.args.asset c.place-place.result x.size told.account_known told.asset_known at x.issues c.args.amount hl);
+          (credit_cell x.cells.now x.counts.accounts x.counts.assets c.args.account c.args.asset c.place-place.result x.size told.account_known told.asset_known at c.args.amount)
+          (credit_issue x.cells.now x.counts.accounts x.counts.assets c.args.account c.args.asset c.place-place.result x.size told.account_known told.asset_known at x.counts.issues c.args.amount hl);
       memory = ap (λ p. set x.cells.now p (get_or x.cells.now p 0 + c.args.amount)) at;
       lender = refl;
     }

@@ -18,39 +18,33 @@ pub overflow_sub-self : goal.overflow_sub-self
 overflow_sub-self c =
     let x = c.args.self.now in
     let told = move_told (means x) c.args.giver c.args.taker c.args.asset c.args.amount c.requires.accepted in
-    omega (arith, told.enough, held_in x.cells.now x.accounts x.assets c.args.giver c.args.asset c.place-from.result x.size told.giver_known told.asset_known c.place-from.ensures.place)
+    omega (arith, told.enough, held_in x.cells.now x.counts.accounts x.counts.assets c.args.giver c.args.asset c.place-from.result x.size told.giver_known told.asset_known c.place-from.ensures.place)
 
 pub invariant_of-self : goal.invariant_of-self
 invariant_of-self c =
     let x = c.args.self.now in
     let told = move_told (means x) c.args.giver c.args.taker c.args.asset c.args.amount c.requires.accepted in
     record {
-      few_accounts = x.few_accounts;
-      few_assets = x.few_assets;
       size = size_set _ _ _ _ x.size;
-      covered = lower_covered x.cells.now x.accounts x.assets c.args.giver c.args.asset c.place-from.result x.size told.giver_known told.asset_known c.place-from.ensures.place x.issues c.args.amount x.covered;
-      bounded = x.bounded;
+      covered = lower_covered x.cells.now x.counts.accounts x.counts.assets c.args.giver c.args.asset c.place-from.result x.size told.giver_known told.asset_known c.place-from.ensures.place x.counts.issues c.args.amount x.covered;
     }
 
 pub overflow_add-self : goal.overflow_add-self
 overflow_add-self c =
     let x = c.args.self.now in
     let told = move_told (means x) c.args.giver c.args.taker c.args.asset c.args.amount c.requires.accepted in
-    let enough : c.args.amount ≤ get_or x.cells.now c.place-from.result 0 = omega (arith, told.enough, held_in x.cells.now x.accounts x.assets c.args.giver c.args.asset c.place-from.result x.size told.giver_known told.asset_known c.place-from.ensures.place) in
-    let le = taken_le x.cells.now x.accounts x.assets c.args.giver c.args.taker c.args.asset c.place-from.result c.place-to.result c.args.amount x.size told.giver_known told.taker_known told.asset_known c.place-from.ensures.place c.place-to.ensures.place told.apart x.issues enough x.covered in
-    omega (arith, le, x.bounded c.args.asset, issued_in x.issues x.assets c.args.asset told.asset_known)
+    let enough : c.args.amount ≤ get_or x.cells.now c.place-from.result 0 = omega (arith, told.enough, held_in x.cells.now x.counts.accounts x.counts.assets c.args.giver c.args.asset c.place-from.result x.size told.giver_known told.asset_known c.place-from.ensures.place) in
+    let le = taken_le x.cells.now x.counts.accounts x.counts.assets c.args.giver c.args.taker c.args.asset c.place-from.result c.place-to.result c.args.amount x.size told.giver_known told.taker_known told.asset_known c.place-from.ensures.place c.place-to.ensures.place told.apart x.counts.issues enough x.covered in
+    omega (arith, le, x.counts.bounded c.args.asset, issued_in x.counts.issues x.counts.assets c.args.asset told.asset_known)
 
 pub invariant_of-self-2 : goal.invariant_of-self-2
 invariant_of-self-2 c =
     let x = c.args.self.now in
     let told = move_told (means x) c.args.giver c.args.taker c.args.asset c.args.amount c.requires.accepted in
-    let enough : c.args.amount ≤ get_or x.cells.now c.place-from.result 0 = omega (arith, told.enough, held_in x.cells.now x.accounts x.assets c.args.giver c.args.asset c.place-from.result x.size told.giver_known told.asset_known c.place-from.ensures.place) in
+    let enough : c.args.amount ≤ get_or x.cells.now c.place-from.result 0 = omega (arith, told.enough, held_in x.cells.now x.counts.accounts x.counts.assets c.args.giver c.args.asset c.place-from.result x.size told.giver_known told.asset_known c.place-from.ensures.place) in
     record {
-      few_accounts = x.few_accounts;
-      few_assets = x.few_assets;
       size = size_set _ _ _ _ (size_set _ _ _ _ x.size);
-      covered = move_covered x.cells.now x.accounts x.assets c.args.giver c.args.taker c.args.asset c.place-from.result c.place-to.result c.args.amount x.size told.giver_known told.taker_known told.asset_known c.place-from.ensures.place c.place-to.ensures.place told.apart x.issues enough x.covered;
-      bounded = x.bounded;
+      covered = move_covered x.cells.now x.counts.accounts x.counts.assets c.args.giver c.args.taker c.args.asset c.place-from.result c.place-to.result c.args.amount x.size told.giver_known told.taker_known told.asset_known c.place-from.ensures.place c.place-to.ensures.place told.apart x.counts.issues enough x.covered;
     }
 
 pub returns : goal.returns
@@ -61,9 +55,9 @@ returns c =
     let told = move_told (means x) c.args.giver c.args.taker c.args.asset n c.requires.accepted in
     let from = c.place-from.ensures.place in
     let to = c.place-to.ensures.place in
-    let given : ℕ = c.args.giver * x.assets + c.args.asset in
+    let given : ℕ = c.args.giver * x.counts.assets + c.args.asset in
     record {
-      meaning = same_meaning _ _ refl refl (move_cell cells x.accounts x.assets c.args.giver c.args.taker c.args.asset c.place-from.result c.place-to.result n x.size told.giver_known told.taker_known told.asset_known from to told.apart) (λ s. refl);
+      meaning = same_meaning _ _ refl refl (move_cell cells x.counts.accounts x.counts.assets c.args.giver c.args.taker c.args.asset c.place-from.result c.place-to.result n x.size told.giver_known told.taker_known told.asset_known from to told.apart) (λ s. refl);
       memory = ap (λ p. set (set cells p (get_or cells p 0 - n)) c.place-to.result (get_or cells c.place-to.result 0 + n)) from
           ∙ ap (λ q. set (set cells given (get_or cells given 0 - n)) q (get_or cells q 0 + n)) to;
       lender = refl;

@@ -7,5 +7,5 @@ returns c =
     let x = c.args.self.now in
     record {
       place = refl;
-      inside = omega (arith, mul-add-lt c.args.account x.assets c.args.asset x.accounts c.requires.known.0 c.requires.known.1, mul_comm x.assets x.accounts, x.size);
+      inside = omega (arith, mul-add-lt c.args.account x.counts.assets c.args.asset x.counts.accounts c.requires.known.0 c.requires.known.1, mul_comm x.counts.assets x.counts.accounts, x.size);
     }
