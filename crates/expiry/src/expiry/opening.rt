@@ -4,20 +4,21 @@ ghost use Rattle.book.specs.Data.{contents};
 ghost use Rattle.register.specs.Registers.{meaning};
 ghost use Rattle.rules.specs.Verdict.{house_empty, opening_refused};
 ghost use Rattle.rules.specs.Histories.{OpensOrRefuses};
-ghost use Rattle.expiry.specs.Seeing.{seen, opening, New};
+ghost use Rattle.state.specs.Seeing.{seen, opening};
+ghost use Rattle.expiry.specs.Opened.{New};
 
+use crate::expiry::Expiry;
 use crate::expiry::room::lacking;
-use crate::expiry::{AGENT_PLACES, Expiry, MOST_HOLDERS};
 use book::book::Book;
+use delivery::paying::AGENT_PLACES;
+use delivery::taking::HOUSE;
 use pairing::line::Line;
 use pairs::lots::SellerLots;
 use register::balances::Balances;
 use rules::fault::OpeningFault;
 use rules::session::Session;
 use rules::side::Side;
-
-// In each register the house's own account.
-const HOUSE: usize = 0;
+use state::state::{MOST_HOLDERS, State};
 
 // In the cash register cash is the only asset of the house.
 const CASH_ASSETS: usize = 1;
@@ -61,9 +62,9 @@ fn refusal<S: Balances, C: Balances>(
 impl Expiry {
     // In session 1, with nothing notified, paired, drawn or closed.
     fn new(book: Book) -> Expiry
-        ensures { New (contents book) result }
+        ensures { New (contents book) result.state }
     {
-        Expiry {
+        let state = State {
             book,
             session: Session::MembersNotices,
             lots: [SellerLots::NONE; MOST_HOLDERS],
@@ -71,7 +72,8 @@ impl Expiry {
             draws: [0; AGENT_PLACES],
             nets: [0; AGENT_PLACES],
             claims: [0; AGENT_PLACES],
-        }
+        };
+        Expiry { state }
     }
 
     fn open_checked<S: Balances, C: Balances>(
@@ -80,7 +82,7 @@ impl Expiry {
         securities: &S,
         cash: &C,
     ) -> Result<Expiry, OpeningFault>
-        ensures opens_or_refuses { OpensOrRefuses (opening (contents book) lines.now (meaning S.Balances securities.now) (meaning C.Balances cash.now)) (λ e. seen e lines.now (meaning S.Balances securities.now) (meaning C.Balances cash.now)) result }
+        ensures opens_or_refuses { OpensOrRefuses (opening (contents book) lines.now (meaning S.Balances securities.now) (meaning C.Balances cash.now)) (λ e. seen e.state lines.now (meaning S.Balances securities.now) (meaning C.Balances cash.now)) result }
     {
         if let Some(fault) = refusal(&book, lines, securities, cash) {
             return Err(fault);
@@ -96,7 +98,7 @@ impl Expiry {
         securities: &S,
         cash: &C,
     ) -> Result<Expiry, OpeningFault>
-        ensures opens_or_refuses { OpensOrRefuses (opening (contents book) lines.now (meaning S.Balances securities.now) (meaning C.Balances cash.now)) (λ e. seen e lines.now (meaning S.Balances securities.now) (meaning C.Balances cash.now)) result }
+        ensures opens_or_refuses { OpensOrRefuses (opening (contents book) lines.now (meaning S.Balances securities.now) (meaning C.Balances cash.now)) (λ e. seen e.state lines.now (meaning S.Balances securities.now) (meaning C.Balances cash.now)) result }
     {
         Expiry::open_checked(book, lines, securities, cash)
     }

@@ -5,7 +5,8 @@ ghost use Rattle.book.specs.Books.{holder as holder_of, volume as volume_of};
 ghost use Rattle.pairing.specs.Lines.{lot as lot_of, unnotified as unnotified_of, net as net_of};
 ghost use Rattle.rules.specs.Tally.{claim as claim_of};
 ghost use Rattle.rules.specs.Histories.{tally_of};
-ghost use Rattle.expiry.specs.Seeing.{record_of, Tells};
+ghost use Rattle.state.specs.Seeing.{record_of};
+ghost use Rattle.expiry.specs.Opened.{Tells};
 
 use crate::expiry::Expiry;
 use book::book::Book;
@@ -60,43 +61,43 @@ fn volume_at(book: &Book, row: usize) -> u32
 
 impl Expiry {
     pub fn session(&self) -> Session
-        ensures tells_the_session { Tells self.now (λ o h. result ≡ (tally_of o h).session) }
+        ensures tells_the_session { Tells self.now.state (λ o h. result ≡ (tally_of o h).session) }
     {
-        self.session
+        self.state.session
     }
 
     // The lines that pairing made; 0 before it.
     pub fn line_count(&self) -> usize
-        ensures tells_the_lines_made { Tells self.now (λ o h. result ≡ length (tally_of o h).lines) }
+        ensures tells_the_lines_made { Tells self.now.state (λ o h. result ≡ length (tally_of o h).lines) }
     {
-        self.count
+        self.state.count
     }
 
     // The lot of the seller in a row for an asset.
     pub fn lot(&self, row: usize, asset: usize) -> u32
-        ensures tells_the_lot { Tells self.now (λ o h. result ≡ lot_of (tally_of o h).lots row asset) }
+        ensures tells_the_lot { Tells self.now.state (λ o h. result ≡ lot_of (tally_of o h).lots row asset) }
     {
-        count_at(&record_at(&self.lots, row).lots, asset)
+        count_at(&record_at(&self.state.lots, row).lots, asset)
     }
 
     // The contracts of the seller in a row that stand in no lot.
     pub fn unnotified(&self, row: usize) -> u32
-        ensures tells_the_unnotified { Tells self.now (λ o h. result ≡ unnotified_of (tally_of o h).lots row (holder_of o.book row)) }
+        ensures tells_the_unnotified { Tells self.now.state (λ o h. result ≡ unnotified_of (tally_of o h).lots row (holder_of o.book row)) }
     {
-        volume_at(&self.book, row).saturating_sub(record_at(&self.lots, row).notified)
+        volume_at(&self.state.book, row).saturating_sub(record_at(&self.state.lots, row).notified)
     }
 
     // What the clients of an agent sell less what they buy, by value.
     pub fn net(&self, agent: usize) -> i64
-        ensures tells_the_net { Tells self.now (λ o h. result ≡ net_of o.book (tally_of o h).lines agent) }
+        ensures tells_the_net { Tells self.now.state (λ o h. result ≡ net_of o.book (tally_of o h).lines agent) }
     {
-        amount_of(&self.nets, agent)
+        amount_of(&self.state.nets, agent)
     }
 
     // What an agent is owed by differences, or owes.
     pub fn claim(&self, agent: usize) -> i64
-        ensures tells_the_claim { Tells self.now (λ o h. result ≡ claim_of o.book (tally_of o h) agent) }
+        ensures tells_the_claim { Tells self.now.state (λ o h. result ≡ claim_of o.book (tally_of o h) agent) }
     {
-        amount_of(&self.claims, agent)
+        amount_of(&self.state.claims, agent)
     }
 }

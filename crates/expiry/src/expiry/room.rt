@@ -9,6 +9,7 @@ ghost use Rattle.rules.specs.Verdict.{lines_a_holder, first_failed, room, too_sm
 use crate::expiry::Expiry;
 use book::book::Book;
 use book::records::Holder;
+use delivery::taking::CASH;
 use pairing::line::Line;
 use register::balances::Balances;
 use rules::call::Call;
@@ -17,9 +18,6 @@ use rules::side::Side;
 
 // Pairs are fewer than holders, and each makes at most one line for each of four assets.
 const LINES_A_HOLDER: usize = 4;
-
-// In the cash register the asset that is cash.
-const CASH: usize = 0;
 
 // Whether the table has places for all lines of the book.
 fn has_places(book: &Book, places: usize) -> bool
@@ -85,9 +83,9 @@ impl Expiry {
         cash: &C,
         call: Call,
     ) -> Option<Fault>
-        ensures { result ≡ too_small (contents self.now.book) (length lines.now) (meaning S.Balances securities.now) (meaning C.Balances cash.now) call }
+        ensures { result ≡ too_small (contents self.now.state.book) (length lines.now) (meaning S.Balances securities.now) (meaning C.Balances cash.now) call }
     {
-        match lacking(&self.book, lines.len(), securities, cash) {
+        match lacking(&self.state.book, lines.len(), securities, cash) {
             Some(part) => Some(Fault {
                 cause: Cause::TooSmall(part),
                 call,

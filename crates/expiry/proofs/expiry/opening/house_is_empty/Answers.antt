@@ -1,7 +1,7 @@
 use Rattle.std.proofs.Common.{◌≡◌, ℕ, true, sym, ◌∙◌, subst, arith}
 use Rattle.register.specs.Registers.{meaning}
 use Rattle.rules.specs.Verdict.{house_empty}
-use Rattle.expiry.proofs.Searches.{empty_more, not_empty}
+use Rattle.expiry.proofs.EmptyHouse.{empty_more, not_empty}
 use Rattle.expiry.proofs.expiry.opening.house_is_empty.Goals as goal
 
 pub returns-then-balance_of-ne0 : goal.returns-then-balance_of-ne0

@@ -6,8 +6,8 @@ use Rattle.rules.specs.declared.fault.Part.{Part}
 use Rattle.rules.specs.declared.fault.OpeningFault.{OpeningFault}
 use Rattle.rules.specs.declared.fault.OpeningFault.TheVariants.{EmptyBook, TooSmall}
 use Rattle.rules.specs.Verdict.{room}
-use Rattle.expiry.specs.Seeing.{opening}
-use Rattle.expiry.proofs.FirstFailed.{passes, named_fails}
+use Rattle.state.specs.Seeing.{opening}
+use Rattle.state.proofs.FirstFailed.{passes, named_fails}
 use Rattle.expiry.proofs.Roomy.{houses, opening_rest}
 use Rattle.expiry.proofs.expiry.opening.refusal.Goals as goal
 

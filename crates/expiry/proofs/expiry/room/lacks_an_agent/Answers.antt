@@ -2,7 +2,7 @@ use Rattle.std.proofs.Common.{Bool, leb, get_or, sym, ◌∙◌, arith}
 use Rattle.std.proofs.lemmas.Bool.{le-leb, lt-leb}
 use Rattle.book.specs.declared.records.Holder.{Holder}
 use Rattle.book.specs.Books.{nobody}
-use Rattle.expiry.proofs.Searches.{any_yes, any_no, any_end}
+use Rattle.pairs.proofs.SomePass.{any_yes, any_no, any_end}
 use Rattle.expiry.proofs.expiry.room.lacks_an_agent.Goals as goal
 
 pub returns-then-accounts-from : goal.returns-then-accounts-from
