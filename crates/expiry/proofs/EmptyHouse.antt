@@ -1,19 +1,28 @@
--- What a loop over the house's balances has found so far.
-use Rattle.std.proofs.Common.{◌≡◌, ℕ, zero, suc, ◌+◌, ◌<◌, Bool, true, false, ◌&&◌, eqb, sym, refl, ap, ◌∙◌, inl, inr, add-one, arith}
-use Rattle.std.proofs.lemmas.Bool.{eq-eqb, ne_eqb, cases_eq}
+-- The house holds none of the first assets, seen from the first one on.
+use Rattle.std.proofs.Common.{◌≡◌, ℕ, zero, suc, ◌+◌, Bool, true, false, ◌&&◌, eqb, refl, ap, ◌∙◌, zero-add, arith}
+use Rattle.std.specs.List.{list_all, range_with_len}
 use Rattle.register.specs.Rules.{Meaning}
 use Rattle.rules.specs.Verdict.{house_empty}
 
-and_false : (b : Bool) → (b && false) ≡ false
-and_false true = refl
-and_false false = refl
+swap : (a b c : Bool) → (a && (b && c)) ≡ (b && (a && c))
+swap true b c = refl
+swap false true c = refl
+swap false false c = refl
 
-pub empty_more : (m : Meaning) (i : ℕ) → m.balance 0 i ≡ 0 → house_empty m i ≡ true → house_empty m (i + 1) ≡ true
-empty_more m i e h = rw add-one (ap (λ (b : Bool). b && house_empty m i) (eq-eqb (m.balance 0 i) 0 e) ∙ h)
+all_more : (p : ℕ → Bool) (a n : ℕ) → list_all p (range_with_len a (suc n)) ≡ (p (a + n) && list_all p (range_with_len a n))
+all_more p a zero = ap (λ (k : ℕ). p k && true) at
+  where
+    at : a ≡ a + 0
+    at = omega arith
+all_more p a (suc n) =
+    ap (λ (b : Bool). p a && b) (all_more p (a + 1) n)
+    ∙ (swap (p a) (p ((a + 1) + n)) (list_all p (range_with_len (a + 1) n))
+    ∙ ap (λ (k : ℕ). p k && (p a && list_all p (range_with_len (a + 1) n))) at)
+  where
+    at : (a + 1) + n ≡ a + suc n
+    at = omega arith
 
-pub not_empty : (m : Meaning) (n i : ℕ) → i < n → (m.balance 0 i ≡ 0 → ⊥) → house_empty m n ≡ false
-not_empty m zero i lt ne = absurd (omega arith)
-not_empty m (suc n) i lt ne = elim (cases_eq i n) [
-  | inl e ↦ ap (λ (b : Bool). b && house_empty m n) (ap (λ (k : ℕ). eqb (m.balance 0 k) 0) (sym e) ∙ ne_eqb (m.balance 0 i) 0 ne)
-  | inr e ↦ ap (λ (b : Bool). eqb (m.balance 0 n) 0 && b) (not_empty m n i (omega arith) ne) ∙ and_false (eqb (m.balance 0 n) 0)
-]
+pub from_the_first : (m : Meaning) (n : ℕ) → list_all (λ i. eqb (m.balance 0 i) 0) (range_with_len 0 n) ≡ house_empty m n
+from_the_first m zero = refl
+from_the_first m (suc n) =
+    all_more (λ i. eqb (m.balance 0 i) 0) 0 n ∙ rw zero-add (ap (λ (b : Bool). eqb (m.balance 0 n) 0 && b) (from_the_first m n))

@@ -1,15 +1,14 @@
 -- What opening checks after the book, and what a call promises where there is too little room and where there is enough.
-use Rattle.std.proofs.Common.{◌≡◌, ℕ, suc, Bool, List, [], ◌∷◌, ◌++◌, map, length, Some, None, Err, Result, sym, refl, ◌∙◌, arith}
+use Rattle.std.proofs.Common.{◌≡◌, ℕ, suc, Bool, List, [], ◌∷◌, ◌++◌, map, length, Some, Err, arith}
 use Rattle.rules.specs.declared.side.Side.TheVariants.{Securities, Cash}
 use Rattle.rules.specs.declared.call.Call.{Call}
-use Rattle.rules.specs.declared.answer.Answer.{Answer}
 use Rattle.rules.specs.declared.fault.Part.{Part}
 use Rattle.rules.specs.declared.fault.OpeningFault.{OpeningFault}
 use Rattle.rules.specs.declared.fault.OpeningFault.TheVariants as opening
 use Rattle.rules.specs.declared.fault.Fault.{Fault}
 use Rattle.rules.specs.Tally.{Opening, cash_asset}
 use Rattle.rules.specs.Verdict.{house_empty, room, too_small}
-use Rattle.rules.specs.Histories.{Seen, GoesOn, SmallRefused}
+use Rattle.rules.specs.Histories.{Seen, GoesOn}
 use Rattle.rules.proofs.WhereItStands.{room_stays}
 
 -- ---- the checks of an opening
@@ -21,16 +20,7 @@ houses o = (house_empty o.securities (length o.book.assets), opening.HouseHolds 
 abbrev pub opening_rest : Opening → List (Bool × OpeningFault)
 opening_rest o = map (λ (x : Bool × Part). (x.0, opening.TooSmall x.1)) (room o.book (length o.table) o.securities o.cash) ++ houses o
 
--- ---- what a call promises where there is too little room, and where there is enough
+-- ---- what a call promises where there is too little room
 
 pub small_goes : (n : Seen) (c : Call) (f : Fault) (then : Seen) → too_small n.book (length n.table) n.securities n.cash c ≡ Some f → GoesOn n c (Err f) then
 small_goes n c f then small o h st = absurd (let none = room_stays o h n c st in let z : ◌≡◌ {A = ℕ} 0 1 = cc (small, none) in omega arith)
-
-pub small_first : (n : Seen) (c : Call) (f : Fault) → too_small n.book (length n.table) n.securities n.cash c ≡ Some f → SmallRefused n.book n c (Err f) n
-small_first n c f small e q = (same_fault f e (sym small ∙ q), refl)
-  where
-    same_fault : (f e : Fault) → Some f ≡ Some e → ◌≡◌ {A = Result Answer Fault} (Err f) (Err e)
-    same_fault f e p = cc
-
-pub enough_first : (n : Seen) (c : Call) (r : Result Answer Fault) (then : Seen) → too_small n.book (length n.table) n.securities n.cash c ≡ None → SmallRefused n.book n c r then
-enough_first n c r then none e q = absurd (let z : ◌≡◌ {A = ℕ} 0 1 = cc (none, q) in omega arith)

@@ -21,11 +21,9 @@ use state::table::made;
 fn place_of(lines: &[Line], line: u64) -> Option<usize>
     ensures { Placed (length lines.now) line result }
 {
-    if line == 0 || (lines.len() as u64) < line {
-        None
-    } else {
-        Some(line as usize - 1)
-    }
+    (line as usize)
+        .checked_sub(1)
+        .filter(|&place| place < lines.len())
 }
 
 fn deliver_made<S: Transfers, C: Transfers>(

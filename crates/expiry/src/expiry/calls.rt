@@ -28,10 +28,7 @@ use settlement::whole::deliver_whole;
 fn answered(call: Call, res: Result<Answer, Cause>) -> Result<Answer, Fault>
     ensures { result ≡ answered_by call res }
 {
-    match res {
-        Ok(answer) => Ok(answer),
-        Err(cause) => Err(Fault { cause, call }),
-    }
+    res.map_err(|cause| Fault { cause, call })
 }
 
 impl Expiry {
@@ -116,9 +113,7 @@ impl Expiry {
         ensures too_small_is_refused_first { SmallRefused (contents self.old.state.book) (seen self.old.state lines.old (meaning S.Balances securities.old) (meaning C.Balances cash.old)) call result (seen self.new.state lines.new (meaning S.Balances securities.new) (meaning C.Balances cash.new)) }
         ensures memory_is_kept { (S.Balances.lender securities.new ≡ S.Balances.lender securities.old) × (C.Balances.lender cash.new ≡ C.Balances.lender cash.old) }
     {
-        if let Some(fault) = self.too_small(lines, securities, cash, call) {
-            return Err(fault);
-        }
+        self.check_call(lines, securities, cash, call)?;
         let result = self.do_call(lines, securities, cash, call);
         answered(call, result)
     }

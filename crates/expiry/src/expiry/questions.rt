@@ -13,26 +13,11 @@ use book::book::Book;
 use pairs::lots::SellerLots;
 use rules::session::Session;
 
-// A count by its place; 0 where there is none.
-fn count_at(counts: &[u32], place: usize) -> u32
-    ensures { result ≡ slice_index counts.now place }
-{
-    if place < counts.len() {
-        counts[place]
-    } else {
-        0
-    }
-}
-
 // An amount by its agent; 0 where there is none.
 fn amount_of(amounts: &[i64], agent: usize) -> i64
     ensures { result ≡ slice_index_or amounts.now agent (pos 0) }
 {
-    if agent < amounts.len() {
-        amounts[agent]
-    } else {
-        0
-    }
+    amounts.get(agent).copied().unwrap_or(0)
 }
 
 // The record of a row; an empty one where there is none.
@@ -40,23 +25,18 @@ fn record_at(records: &[SellerLots], row: usize) -> SellerLots
     ensures lots { (a : ℕ) → slice_index result.lots a ≡ slice_index (record_of records.now row).lots a }
     ensures notified { result.notified ≡ (record_of records.now row).notified }
 {
-    if row == 0 || row > records.len() {
-        SellerLots::NONE
-    } else {
-        records[row - 1]
-    }
+    row.checked_sub(1)
+        .and_then(|place| records.get(place).copied())
+        .unwrap_or(SellerLots::NONE)
 }
 
 // The contracts of the holder in a row; 0 where there is nobody.
 fn volume_at(book: &Book, row: usize) -> u32
     ensures { result ≡ volume_of (holder_of (contents book.now) row) }
 {
-    let holders = book.holders();
-    if row == 0 || row > holders.len() {
-        0
-    } else {
-        holders[row - 1].volume()
-    }
+    row.checked_sub(1)
+        .and_then(|place| book.holders().get(place))
+        .map_or(0, |h| h.volume())
 }
 
 impl Expiry {
@@ -77,7 +57,8 @@ impl Expiry {
     pub fn lot(&self, row: usize, asset: usize) -> u32
         ensures tells_the_lot { Tells self.now.state (λ o h. result ≡ lot_of (tally_of o h).lots row asset) }
     {
-        count_at(&record_at(&self.state.lots, row).lots, asset)
+        let lots = record_at(&self.state.lots, row).lots;
+        lots.get(asset).copied().unwrap_or(0)
     }
 
     // The contracts of the seller in a row that stand in no lot.

@@ -14,7 +14,8 @@ use rules::answer::Answer;
 use rules::call::Call;
 use rules::fault::{Fault, OpeningFault};
 
-// A call, and the answer that it got.
+// A call, and the answer that it got. Before it is made the answer is a blank one, `Done`: a run leaves no entry without one,
+// so an `Option` would give every reader a `None` that never comes.
 #[derive(Clone, Copy)]
 pub struct Entry {
     pub call: Call,
