@@ -1,5 +1,5 @@
 -- A call in its session goes on as its part of the engine promises; in another it is refused.
-use Rattle.std.proofs.Common.{◌≡◌, Bool, true, false, ◌||◌, eqb, List, ◌∷◌, length, None, Ok, Err, Result, sym, refl, ap, ◌∙◌, subst}
+use Rattle.std.proofs.Common.{◌≡◌, Bool, true, ◌||◌, eqb, List, ◌∷◌, length, None, Ok, Result, sym, refl, ap, ◌∙◌, subst}
 use Rattle.register.specs.Rules.{Meaning}
 use Rattle.pairing.specs.declared.line.Line.{Line}
 use Rattle.pairing.specs.Lines.{lot, notified, net}
@@ -12,7 +12,6 @@ use Rattle.rules.specs.declared.call.Call.TheVariants as call
 use Rattle.rules.specs.declared.answer.Answer.{Answer}
 use Rattle.rules.specs.declared.answer.Answer.TheVariants.{Done}
 use Rattle.rules.specs.declared.fault.Cause.{Cause}
-use Rattle.rules.specs.declared.fault.Cause.TheVariants.{WrongSession}
 use Rattle.rules.specs.Numbers.{session_number}
 use Rattle.rules.specs.Tally.{Opening, Tally, held, told, claim, with_lots, accepted, ended}
 use Rattle.rules.specs.Verdict.{in_its_session}
@@ -20,7 +19,7 @@ use Rattle.rules.specs.Histories.{Entry, tally_of, Seen, Same, register, over, S
 use Rattle.state.specs.declared.state.State.{State}
 use Rattle.state.specs.Seeing.{seen}
 use Rattle.state.specs.Following.{answered, Follows}
-use Rattle.state.proofs.Standing.{due_judged, wrong_session}
+use Rattle.state.proofs.Standing.{due_judged}
 
 -- The sessions in which a call is made.
 abbrev pub allowed : Session → Call → Bool
@@ -53,9 +52,6 @@ module _ (o : Opening) (h : List Entry) (n : Seen) (st : Stands o h n) (c : Call
   by_its_part x r then e now' part =
       subst (λ (y : Call). Stands o ((y, answered y r) ∷ h) then) (sym e)
       (part o h st (ap (in_its_session (tally_of o h)) (sym e) ∙ (told_allowed ∙ now')))
-
-  pub not_now : allowed n.session c ≡ false → Stands o ((c, answered c (Err WrongSession)) ∷ h) n
-  not_now now' = wrong_session o h n c st (told_allowed ∙ now')
 
 -- The state in another session.
 abbrev pub with_session : State → Session → State

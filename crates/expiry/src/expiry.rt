@@ -11,6 +11,8 @@ pub mod questions;
 pub mod room;
 pub mod runs;
 
+// Calls are lent the caller's lines and two registers one by one: a struct of them would have to borrow all three anew for
+// each call.
 #[derive(Drop)]
 pub struct Expiry {
     state: State,

@@ -36,6 +36,7 @@ impl AskedCredit {
         if self.account == HOUSE as u64 {
             return Err(Cause::HouseCredit);
         }
+        // A `usize` has 64 bits here, so no name is cut off, where `TryFrom` would add a refusal that never comes.
         register
             .credit(self.account as usize, self.asset as usize, self.amount)
             .map_err(|fault| Cause::Register(self.side, fault))

@@ -34,7 +34,7 @@ fn contracts_asked(session: Session, due: u32, covered: u64) -> u32
     ensures { result ≡ asked_for session due covered }
 {
     if session == Session::PartialDelivery {
-        u64::from(due).min(covered.max(1)) as u32
+        due.min(u32::try_from(covered.max(1)).unwrap_or(due))
     } else {
         due
     }
@@ -81,6 +81,7 @@ fn take_by_rules<S: Transfers>(
         &mut lines[..n],
         securities,
         row_or_0(&state.book, member, number),
+        // 64 bits both: a `TryFrom` would add a refusal that never comes.
         asset as usize,
     )
 }

@@ -43,7 +43,7 @@ fn speaks_for(session: Session, speaker: Speaker, seller: &Holder) -> bool
     }
 }
 
-// Whether a book of so many assets has this one.
+// Whether a book of so many assets has this one. There is no `From` that widens a `usize`.
 fn has_asset(assets: usize, asset: u64) -> bool
     ensures { result ≡ nat_lt asset assets }
 {
@@ -133,6 +133,7 @@ fn notice_by_rules(state: &mut State, asked: AskedNotice) -> Result<Answer, Caus
     ensures goes_on_by_the_rules { (lines : List Line) (securities cash : Meaning) → Follows (seen state.old lines securities cash) (notice_call asked.speaker asked.member asked.number asked.asset asked.contracts) result (seen state.new lines securities cash) }
 {
     let place = notice_place(state, asked)?;
+    // Both are in range by the checks, so nothing is cut off, and a `TryFrom` would add a refusal that never comes.
     note(
         &mut state.lots,
         place,

@@ -6,7 +6,8 @@ use pairs::lots::SellerLots;
 use rules::session::Session;
 
 // Each of the most holders that a book may have has a record, so that no call asks for memory. Lots and notified contracts
-// stand in the record of a row, at the row less one. Draws held, nets and claims are those of each agent, by its number.
+// stand in the record of a row, at the row less one. Draws held, nets and claims are those of each agent, by its number, and
+// 0 where there is none: three tables, since each is whole what a function of `delivery` takes (draws) or answers (the others).
 #[derive(Drop)]
 pub struct State {
     pub book: Book,

@@ -9,6 +9,7 @@ ghost use Rattle.rules.specs.Verdict.{lines_a_holder, first_failed, room, too_sm
 
 use crate::expiry::Expiry;
 use book::book::Book;
+use book::limits::MOST_ASSETS;
 use book::records::Holder;
 use delivery::taking::CASH;
 use pairing::line::Line;
@@ -17,8 +18,8 @@ use rules::call::Call;
 use rules::fault::{Cause, Fault, Part};
 use rules::side::Side;
 
-// Pairs are fewer than holders, and each makes at most one line for each of four assets.
-const LINES_A_HOLDER: usize = 4;
+// Pairs are fewer than holders, and each makes at most one line for each asset.
+const LINES_A_HOLDER: usize = MOST_ASSETS;
 
 // Whether the table has places for all lines of the book.
 fn has_places(book: &Book, places: usize) -> bool

@@ -27,17 +27,12 @@ loop-entry-preserved g c =
       c.apply-answer.ensures.memory_is_kept.1 ∙ inv.3,
     )
 
-pub returns : goal.returns
-returns g c =
+pub returns-clause-law_over_the_run : goal.returns-clause-law_over_the_run
+returns-clause-law_over_the_run g c =
     let es : List Entry = c.loop-entry.entries in
     let past : length c.loop-entry.entries ≤ c.loop-entry.entry-index = omega arith in
     let then : Seen = seen c.loop-entry.self.state c.loop-entry.lines (meaning g.S.Balances c.loop-entry.securities) (meaning g.C.Balances c.loop-entry.cash) in
     let before : Seen = seen c.args.self.now.state c.args.lines.now (meaning g.S.Balances c.args.securities.now) (meaning g.C.Balances c.args.cash.now) in
-    let inv = c.loop-entry.invariant in
     let stands : (o : Opening) (h : List histories.Entry) → Stands o h before → Stands o (entered es h) then =
-    λ o h st. subst (λ (x : List histories.Entry). Stands o x then) (entered_all es c.loop-entry.entry-index h past) (inv.0 o h st) in
-    record {
-      law_over_the_run = λ o h st. (stands o h st, the_law_holds o (entered es h) then (stands o h st));
-      calls_stay = inv.1;
-      memory_is_kept = (inv.2, inv.3);
-    }
+    λ o h st. subst (λ (x : List histories.Entry). Stands o x then) (entered_all es c.loop-entry.entry-index h past) (c.loop-entry.invariant.0 o h st) in
+    λ o h st. (stands o h st, the_law_holds o (entered es h) then (stands o h st))
