@@ -10,9 +10,10 @@ use Rattle.rules.specs.Tally.{Opening, empty, told}
 use Rattle.rules.specs.Verdict.{opening_refused}
 use Rattle.rules.specs.Histories.{Stands, Same, register}
 use Rattle.rules.proofs.Begins.{told_at_first}
-use Rattle.expiry.specs.declared.expiry.Expiry.{Expiry}
-use Rattle.expiry.specs.Seeing.{record_of, seen, zeros, even, blank, New}
-use Rattle.expiry.proofs.FirstFailed.{fails}
+use Rattle.state.specs.declared.state.State.{State}
+use Rattle.state.specs.Seeing.{record_of, seen}
+use Rattle.expiry.specs.Opened.{zeros, even, blank, New}
+use Rattle.state.proofs.FirstFailed.{fails}
 use Rattle.expiry.proofs.Roomy.{opening_rest}
 
 pub zeros_at : (ns : List ℕ) → zeros ns ≡ true → (i : ℕ) → get_or ns i 0 ≡ 0
@@ -49,7 +50,7 @@ some_holders o h = elim (cases_Bool (ltb 0 (length o.book.holders))) [
   | inr e ↦ absurd (let f = fails (ltb 0 (length o.book.holders)) EmptyBook (opening_rest o) e in let z : ◌≡◌ {A = ℕ} 0 1 = cc (f, h) in omega arith)
 ]
 
-pub begun : (o : Opening) (e : Expiry) → Sound o.book → opening_refused o ≡ None → New o.book e → Stands o [] (seen e o.table o.securities o.cash)
+pub begun : (o : Opening) (e : State) → Sound o.book → opening_refused o ≡ None → New o.book e → Stands o [] (seen e o.table o.securities o.cash)
 begun o e sound passed n = record {
   opens = record { book = sound; not_refused = passed };
   lived = tt;

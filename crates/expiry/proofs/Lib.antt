@@ -1,7 +1,5 @@
-pub mod FirstFailed
-pub mod Searches
+pub mod EmptyHouse
 pub mod Roomy
 pub mod Blank
-pub mod Credited
-pub mod Noticed
-pub mod Absent
+pub mod Dispatched
+pub mod Entered

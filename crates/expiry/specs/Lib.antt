@@ -1,3 +1,4 @@
-pub mod Seeing
-pub mod Crediting
-pub mod Noticing
+pub mod Opened
+pub mod Running
+pub use Rattle.state.specs.Seeing
+pub use Rattle.state.specs.Calls

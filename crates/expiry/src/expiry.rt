@@ -1,28 +1,19 @@
-// One expiry: its book, its session, and what the calls so far left to be known.
-use book::book::Book;
-use pairs::lots::SellerLots;
-use rules::session::Session;
+// One expiry, which only its own calls change.
+pub use delivery::paying::AGENT_PLACES;
+pub use state::state::MOST_HOLDERS;
+use state::state::State;
 
+pub mod calls;
 pub mod credits;
-pub mod notices;
+pub mod noticing;
 pub mod opening;
 pub mod questions;
 pub mod room;
+pub mod runs;
 
-// A book has at most 256 holders; each has a record, so that no call asks for memory.
-pub const MOST_HOLDERS: usize = 256;
-
-// Places for amounts by agent: agents are numbered from 1, and no book has one above 64.
-pub const AGENT_PLACES: usize = 65;
-
-// Nets and claims are those of each agent, by its number.
+// Calls are lent the caller's lines and two registers one by one: a struct of them would have to borrow all three anew for
+// each call.
 #[derive(Drop)]
 pub struct Expiry {
-    book: Book,
-    session: Session,
-    lots: [SellerLots; MOST_HOLDERS],
-    count: usize,
-    draws: [u64; AGENT_PLACES],
-    nets: [i64; AGENT_PLACES],
-    claims: [i64; AGENT_PLACES],
+    state: State,
 }

@@ -39,11 +39,11 @@ fn draw_made<C: Transfers>(
     ensures goes_on_by_the_rules { (securities : Meaning) → FollowsOnMade state.old state.new lines.now lines.now securities securities (meaning C.Balances cash.old) (meaning C.Balances cash.new) (draw_call agent) result }
     ensures memory_is_kept { C.Balances.lender cash.new ≡ C.Balances.lender cash.old }
 {
-    if AGENT_PLACES <= agent {
+    let Some(&drawn) = state.draws.get(agent) else {
         return Err(Cause::NothingDue);
-    }
+    };
     let amount = debit(&state.book, lines, agent);
-    if amount == 0 || state.draws[agent] != 0 {
+    if amount == 0 || drawn != 0 {
         return Err(Cause::NothingDue);
     }
     draw(cash, agent, amount)?;
@@ -62,6 +62,7 @@ pub fn draw_debit<C: Transfers>(
     ensures memory_is_kept { C.Balances.lender cash.new ≡ C.Balances.lender cash.old }
 {
     let n = made(state.count, lines);
+    // 64 bits both: a `TryFrom` would add a refusal that never comes.
     draw_made(state, &lines[..n], cash, agent as usize)
 }
 

@@ -25,10 +25,7 @@ use state::table::made;
 fn row_or_0(book: &Book, member: u64, number: u64) -> usize
     ensures { result ≡ row_named (contents book.now) member number }
 {
-    match book.row_of(member, number) {
-        Some(row) => row,
-        None => 0,
-    }
+    book.row_of(member, number).unwrap_or(0)
 }
 
 // The contracts that a take asks for: in whole delivery all that are due, in partial delivery as many of them as the
@@ -36,9 +33,10 @@ fn row_or_0(book: &Book, member: u64, number: u64) -> usize
 fn contracts_asked(session: Session, due: u32, covered: u64) -> u32
     ensures { result ≡ asked_for session due covered }
 {
-    match session {
-        Session::PartialDelivery => u64::from(due).min(covered.max(1)) as u32,
-        _ => due,
+    if session == Session::PartialDelivery {
+        due.min(u32::try_from(covered.max(1)).unwrap_or(due))
+    } else {
+        due
     }
 }
 
@@ -83,6 +81,7 @@ fn take_by_rules<S: Transfers>(
         &mut lines[..n],
         securities,
         row_or_0(&state.book, member, number),
+        // 64 bits both: a `TryFrom` would add a refusal that never comes.
         asset as usize,
     )
 }

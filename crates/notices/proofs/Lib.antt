@@ -1,3 +1,4 @@
+pub mod Mapped
 pub mod HeldLots
 pub mod Noticed
 pub mod Ended

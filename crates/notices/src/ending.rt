@@ -24,13 +24,9 @@ fn on_to_pairing(state: &mut State)
 fn end_by_rules(state: &mut State) -> Result<Answer, Cause>
     ensures goes_on_by_the_rules { (lines : List Line) (securities cash : Meaning) → state.old.session ≡ session_of.ClearingNotices → Follows (seen state.old lines securities cash) end_call result (seen state.new lines securities cash) }
 {
-    match hand_out(&state.book, &mut state.lots) {
-        Ok(()) => {
-            on_to_pairing(state);
-            Ok(Answer::Done)
-        }
-        Err(_) => Err(Cause::TooSmall(Part::LineTable)),
-    }
+    hand_out(&state.book, &mut state.lots).map_err(|_| Cause::TooSmall(Part::LineTable))?;
+    on_to_pairing(state);
+    Ok(Answer::Done)
 }
 
 // Ends the clearing members' notices: each seller's unnotified contracts go to the first deliverable, and pairing follows.

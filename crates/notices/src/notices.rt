@@ -4,7 +4,7 @@ ghost use Rattle.pairing.specs.declared.line.Line.{Line};
 ghost use Rattle.pairs.specs.Records.{no_lots};
 ghost use Rattle.book.specs.Data.{contents};
 ghost use Rattle.book.specs.Books.{row_named, volume as volume_of};
-ghost use Rattle.register.specs.Rules.{Meaning};
+ghost use Rattle.register.specs.Rules.{Meaning, answer};
 ghost use Rattle.rules.specs.declared.session.Session.TheVariants as session_of;
 ghost use Rattle.rules.specs.Verdict.{first_failed};
 ghost use Rattle.state.specs.Seeing.{record_of, seen};
@@ -21,14 +21,14 @@ use rules::session::Session;
 use rules::speaker::Speaker;
 use state::state::State;
 
-// Whether members may speak.
-fn is_first(session: Session) -> bool
-    ensures { result ≡ is_session session session_of.MembersNotices }
-{
-    match session {
-        Session::MembersNotices => true,
-        _ => false,
-    }
+// A notice that is given: who speaks, for which seller, and how many contracts in which asset.
+#[derive(Clone, Copy)]
+struct AskedNotice {
+    speaker: Speaker,
+    member: u64,
+    number: u64,
+    asset: u64,
+    contracts: u64,
 }
 
 // Whether the speaker is the seller's clearing member or, in session 1, its member.
@@ -36,12 +36,14 @@ fn speaks_for(session: Session, speaker: Speaker, seller: &Holder) -> bool
     ensures { result ≡ speaks_for session speaker seller.now }
 {
     match speaker {
-        Speaker::Member(n) => is_first(session) && n == u64::from(seller.member),
+        Speaker::Member(n) => {
+            session == Session::MembersNotices && n == u64::from(seller.member)
+        }
         Speaker::Clearing(n) => n == u64::from(seller.clearing),
     }
 }
 
-// Whether a book of so many assets has this one.
+// Whether a book of so many assets has this one. There is no `From` that widens a `usize`.
 fn has_asset(assets: usize, asset: u64) -> bool
     ensures { result ≡ nat_lt asset assets }
 {
@@ -55,71 +57,45 @@ fn has_contracts(seller: &Holder, done: u32, contracts: u64) -> bool
     0 < contracts && contracts <= u64::from(seller.volume().saturating_sub(done))
 }
 
-// What fails of a notice for this seller.
-fn notice_fault(
+// Refuses a notice by the first check of it that fails for this seller.
+fn check_notice(
     session: Session,
-    speaker: Speaker,
+    asked: AskedNotice,
     seller: &Holder,
     assets: usize,
     done: u32,
-    asset: u64,
-    contracts: u64,
-) -> Option<Cause>
-    ensures { result ≡ first_failed (fault_checks session speaker seller.now assets done asset contracts) }
+) -> Result<(), Cause>
+    ensures { result ≡ answer (first_failed (fault_checks session asked.speaker seller.now assets done asked.asset asked.contracts)) }
 {
-    if !speaks_for(session, speaker, seller) {
-        return Some(Cause::NotItsSeller);
+    if !speaks_for(session, asked.speaker, seller) {
+        return Err(Cause::NotItsSeller);
     }
-    if !has_asset(assets, asset) {
-        return Some(Cause::NoSuchAsset);
+    if !has_asset(assets, asked.asset) {
+        return Err(Cause::NoSuchAsset);
     }
-    if !has_contracts(seller, done, contracts) {
-        return Some(Cause::BadContracts);
+    if !has_contracts(seller, done, asked.contracts) {
+        return Err(Cause::BadContracts);
     }
-    None
+    Ok(())
 }
 
 // The place of the seller with this member and number, if it is one.
 fn seller_place(book: &Book, member: u64, number: u64) -> Option<usize>
     ensures { SellerAt (contents book.now) member number result }
 {
-    match book.row_of(member, number) {
-        Some(row) => {
-            let place = row - 1;
-            if book.holders()[place].sells() {
-                Some(place)
-            } else {
-                None
-            }
-        }
-        None => None,
-    }
-}
-
-// A lot of the record, with the contracts where it is the one for the asset.
-fn lot_after(held: &SellerLots, i: usize, asset: usize, contracts: u32) -> u32
-    requires { i < 4 }
-    ensures { result ≡ lot_more held.now asset contracts i }
-{
-    let lot = held.lots[i];
-    if i == asset {
-        lot.saturating_add(contracts)
-    } else {
-        lot
-    }
+    book.row_of(member, number)
+        .map(|row| row - 1)
+        .filter(|&place| book.holders()[place].sells())
 }
 
 // The record with the contracts notified.
 fn add_lot(held: SellerLots, asset: usize, contracts: u32) -> SellerLots
-    requires { held.notified + contracts < 4294967296 }
+    requires there { asset < 4 }
+    requires countable { held.notified + contracts < 4294967296 }
     ensures { result ≡ with_lot held asset contracts }
 {
-    let lots = [
-        lot_after(&held, 0, asset, contracts),
-        lot_after(&held, 1, asset, contracts),
-        lot_after(&held, 2, asset, contracts),
-        lot_after(&held, 3, asset, contracts),
-    ];
+    let mut lots = held.lots;
+    lots[asset] = lots[asset].saturating_add(contracts);
     SellerLots {
         lots,
         notified: held.notified + contracts,
@@ -129,6 +105,7 @@ fn add_lot(held: SellerLots, asset: usize, contracts: u32) -> SellerLots
 // Notes the contracts in the record at a place.
 fn note(records: &mut [SellerLots], place: usize, asset: usize, contracts: u32)
     requires there { place < length records.old }
+    requires an_asset { asset < 4 }
     requires countable { (get_or records.old place no_lots).notified + contracts < 4294967296 }
     ensures noted { records.new ≡ slice_set records.old place (with_lot (slice_index_or records.old place no_lots) asset contracts) }
     ensures there { place < length records.old }
@@ -137,49 +114,32 @@ fn note(records: &mut [SellerLots], place: usize, asset: usize, contracts: u32)
 }
 
 // The place of the seller's record, or what stops the notice.
-fn notice_place(
-    state: &State,
-    speaker: Speaker,
-    member: u64,
-    number: u64,
-    asset: u64,
-    contracts: u64,
-) -> Result<usize, Cause>
-    ensures place_or_cause { result ≡ place_or (notice_stops (contents state.now.book) state.now.session (record_of state.now.lots (row_named (contents state.now.book) member number)).notified speaker member number asset contracts) (row_named (contents state.now.book) member number) }
-    ensures fits { FitsIn state.now.lots asset contracts result }
+fn notice_place(state: &State, asked: AskedNotice) -> Result<usize, Cause>
+    ensures place_or_cause { result ≡ place_or (notice_stops (contents state.now.book) state.now.session (record_of state.now.lots (row_named (contents state.now.book) asked.member asked.number)).notified asked.speaker asked.member asked.number asked.asset asked.contracts) (row_named (contents state.now.book) asked.member asked.number) }
+    ensures fits { FitsIn state.now.lots asked.asset asked.contracts result }
 {
-    match seller_place(&state.book, member, number) {
-        Some(place) => {
-            let fault = notice_fault(
-                state.session,
-                speaker,
-                &state.book.holders()[place],
-                state.book.assets().len(),
-                state.lots[place].notified,
-                asset,
-                contracts,
-            );
-            match fault {
-                Some(cause) => Err(cause),
-                None => Ok(place),
-            }
-        }
-        None => Err(Cause::NoSuchSeller),
-    }
+    let place = seller_place(&state.book, asked.member, asked.number).ok_or(Cause::NoSuchSeller)?;
+    check_notice(
+        state.session,
+        asked,
+        &state.book.holders()[place],
+        state.book.assets().len(),
+        state.lots[place].notified,
+    )?;
+    Ok(place)
 }
 
-fn notice_by_rules(
-    state: &mut State,
-    speaker: Speaker,
-    member: u64,
-    number: u64,
-    asset: u64,
-    contracts: u64,
-) -> Result<Answer, Cause>
-    ensures goes_on_by_the_rules { (lines : List Line) (securities cash : Meaning) → Follows (seen state.old lines securities cash) (notice_call speaker member number asset contracts) result (seen state.new lines securities cash) }
+fn notice_by_rules(state: &mut State, asked: AskedNotice) -> Result<Answer, Cause>
+    ensures goes_on_by_the_rules { (lines : List Line) (securities cash : Meaning) → Follows (seen state.old lines securities cash) (notice_call asked.speaker asked.member asked.number asked.asset asked.contracts) result (seen state.new lines securities cash) }
 {
-    let place = notice_place(state, speaker, member, number, asset, contracts)?;
-    note(&mut state.lots, place, asset as usize, contracts as u32);
+    let place = notice_place(state, asked)?;
+    // Both are in range by the checks, so nothing is cut off, and a `TryFrom` would add a refusal that never comes.
+    note(
+        &mut state.lots,
+        place,
+        asked.asset as usize,
+        asked.contracts as u32,
+    );
     Ok(Answer::Done)
 }
 
@@ -195,5 +155,12 @@ pub fn notice(
 ) -> Result<Answer, Cause>
     ensures goes_on_by_the_rules { (lines : List Line) (securities cash : Meaning) → Follows (seen state.old lines securities cash) (notice_call speaker member number asset contracts) result (seen state.new lines securities cash) }
 {
-    notice_by_rules(state, speaker, member, number, asset, contracts)
+    let asked = AskedNotice {
+        speaker,
+        member,
+        number,
+        asset,
+        contracts,
+    };
+    notice_by_rules(state, asked)
 }

@@ -27,14 +27,10 @@ fn on_to_delivery(state: &mut State, count: usize, nets: [i64; AGENT_PLACES])
 fn pair_by_rules(state: &mut State, lines: &mut [Line]) -> Result<Answer, Cause>
     ensures goes_on_by_the_rules { (securities cash : Meaning) → Follows (seen state.old lines.old securities cash) pair_call result (seen state.new lines.new securities cash) }
 {
-    match pair(&state.book, &state.lots, lines) {
-        Ok(n) => {
-            let each_net = nets(&state.book, &lines[..n]);
-            on_to_delivery(state, n, each_net);
-            Ok(Answer::Lines(n))
-        }
-        Err(_) => Err(Cause::TooSmall(Part::LineTable)),
-    }
+    let n = pair(&state.book, &state.lots, lines).map_err(|_| Cause::TooSmall(Part::LineTable))?;
+    let each_net = nets(&state.book, &lines[..n]);
+    on_to_delivery(state, n, each_net);
+    Ok(Answer::Lines(n))
 }
 
 // Pairs the book: its lines go into the first places of the table, each agent's net follows from them, and whole delivery

@@ -18,14 +18,13 @@ use state::state::State;
 use state::table::made;
 
 // The place of a line by its number, which counts from 1.
+// 64 bits both: a `TryFrom` would add a case that never comes.
 fn place_of(lines: &[Line], line: u64) -> Option<usize>
     ensures { Placed (length lines.now) line result }
 {
-    if line == 0 || (lines.len() as u64) < line {
-        None
-    } else {
-        Some(line as usize - 1)
-    }
+    (line as usize)
+        .checked_sub(1)
+        .filter(|&place| place < lines.len())
 }
 
 fn deliver_made<S: Transfers, C: Transfers>(

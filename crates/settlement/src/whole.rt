@@ -1,17 +1,17 @@
 // Whole settlement: everything at once.
-ghost use Rattle.std.specs.Prelude.{◌≡◌, ℕ, ◌&&◌, nat_lt, slice_index};
+ghost use Rattle.std.specs.Prelude.{◌≡◌, ℕ, ◌&&◌};
 ghost use Rattle.book.specs.Data.{contents};
-ghost use Rattle.pairing.specs.Lines.{debit as debit_of};
 ghost use Rattle.register.specs.Registers.{meaning};
 ghost use Rattle.rules.specs.declared.session.Session.TheVariants as session_of;
 ghost use Rattle.delivery.specs.Sums.{ValuesFit};
 ghost use Rattle.state.specs.Seeing.{seen};
 ghost use Rattle.state.specs.Following.{Follows};
 ghost use Rattle.state.specs.Calls.{whole_call};
-ghost use Rattle.settlement.specs.InFull.{taken_in_full, drawn_in_full};
+ghost use Rattle.settlement.specs.InFull.{taken_in_full, short, drawn_in_full};
 ghost use Rattle.state.specs.Leaving.{without_draws};
 ghost use Rattle.state.specs.Making.{FollowsOnMade};
 
+use book::records::Holder;
 use delivery::paying::AGENT_PLACES;
 use delivery::sums::debit;
 use delivery::taking::all_taken;
@@ -25,30 +25,23 @@ use rules::session::Session;
 use state::state::State;
 use state::table::made;
 
-// The draw held of an agent; 0 where there is no such agent.
-fn held_of(draws: &[u64], agent: usize) -> u64
-    ensures { result ≡ slice_index draws.now agent }
+// Whether less is drawn of a holder's agent than its debit.
+fn falls_short(state: &State, lines: &[Line], holder: &Holder) -> bool
+    ensures { ValuesFit (contents state.now.book) lines.now holder.now.agent → result ≡ short (contents state.now.book) lines.now state.now.draws holder.now }
 {
-    if agent < draws.len() { draws[agent] } else { 0 }
-}
-
-// Whether less is drawn of an agent than its debit.
-fn falls_short(state: &State, lines: &[Line], agent: usize) -> bool
-    ensures { ValuesFit (contents state.now.book) lines.now agent → result ≡ nat_lt (slice_index state.now.draws agent) (debit_of (contents state.now.book) lines.now agent) }
-{
-    held_of(&state.draws, agent) < debit(&state.book, lines, agent)
+    let agent = usize::from(holder.agent);
+    state.draws.get(agent).copied().unwrap_or(0) < debit(&state.book, lines, agent)
 }
 
 // Whether every debit of the book's agents is drawn.
 fn all_drawn(state: &State, lines: &[Line]) -> bool
     ensures { ((agent : ℕ) → ValuesFit (contents state.now.book) lines.now agent) → result ≡ drawn_in_full (contents state.now.book) lines.now state.now.draws }
 {
-    for h in state.book.holders() {
-        if falls_short(state, lines, usize::from(h.agent)) {
-            return false;
-        }
-    }
-    true
+    !state
+        .book
+        .holders()
+        .iter()
+        .any(|h| falls_short(state, lines, h))
 }
 
 // Whether every contract is taken and every debit drawn.

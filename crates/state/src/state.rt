@@ -1,14 +1,13 @@
 // The state of one expiry: its book, its session, and what the calls so far left to be known.
 use book::book::Book;
+pub use book::limits::MOST_HOLDERS;
 use delivery::paying::AGENT_PLACES;
 use pairs::lots::SellerLots;
 use rules::session::Session;
 
-// A book has at most 256 holders; each has a record, so that no call asks for memory.
-pub const MOST_HOLDERS: usize = 256;
-
-// Lots and notified contracts stand in the record of a row, at the row less one. Draws held, nets and claims are those of
-// each agent, by its number.
+// Each of the most holders that a book may have has a record, so that no call asks for memory. Lots and notified contracts
+// stand in the record of a row, at the row less one. Draws held, nets and claims are those of each agent, by its number, and
+// 0 where there is none: three tables, since each is whole what a function of `delivery` takes (draws) or answers (the others).
 #[derive(Drop)]
 pub struct State {
     pub book: Book,

@@ -2,22 +2,24 @@
 ghost use Rattle.std.specs.Prelude.{◌≡◌};
 ghost use Rattle.book.specs.Data.{contents};
 ghost use Rattle.register.specs.Registers.{meaning};
+ghost use Rattle.register.specs.Rules.{answer};
 ghost use Rattle.rules.specs.Verdict.{house_empty, opening_refused};
 ghost use Rattle.rules.specs.Histories.{OpensOrRefuses};
-ghost use Rattle.expiry.specs.Seeing.{seen, opening, New};
+ghost use Rattle.state.specs.Seeing.{seen, opening};
+ghost use Rattle.expiry.specs.Opened.{New};
 
-use crate::expiry::room::lacking;
-use crate::expiry::{AGENT_PLACES, Expiry, MOST_HOLDERS};
+use crate::expiry::Expiry;
+use crate::expiry::room::check_room;
 use book::book::Book;
+use delivery::paying::AGENT_PLACES;
+use delivery::taking::HOUSE;
 use pairing::line::Line;
 use pairs::lots::SellerLots;
 use register::balances::Balances;
 use rules::fault::OpeningFault;
 use rules::session::Session;
 use rules::side::Side;
-
-// In each register the house's own account.
-const HOUSE: usize = 0;
+use state::state::{MOST_HOLDERS, State};
 
 // In the cash register cash is the only asset of the house.
 const CASH_ASSETS: usize = 1;
@@ -26,44 +28,37 @@ const CASH_ASSETS: usize = 1;
 fn house_is_empty<R: Balances>(register: &R, assets: usize) -> bool
     ensures { result ≡ house_empty (meaning R.Balances register.now) assets }
 {
-    for asset in 0..assets {
-        if register.balance_of(HOUSE, asset) != 0 {
-            return false;
-        }
-    }
-    true
+    (0..assets).all(|asset| register.balance_of(HOUSE, asset) == 0)
 }
 
-// Why an expiry is not opened, if it is not.
-fn refusal<S: Balances, C: Balances>(
+// Refuses to open an expiry as the rules do: the empty book first, then too little room, then a house that holds something.
+fn check_opening<S: Balances, C: Balances>(
     book: &Book,
     lines: &[Line],
     securities: &S,
     cash: &C,
-) -> Option<OpeningFault>
-    ensures { result ≡ opening_refused (opening (contents book.now) lines.now (meaning S.Balances securities.now) (meaning C.Balances cash.now)) }
+) -> Result<(), OpeningFault>
+    ensures { result ≡ answer (opening_refused (opening (contents book.now) lines.now (meaning S.Balances securities.now) (meaning C.Balances cash.now))) }
 {
-    if book.holders().len() == 0 {
-        return Some(OpeningFault::EmptyBook);
+    if book.holders().is_empty() {
+        return Err(OpeningFault::EmptyBook);
     }
-    if let Some(part) = lacking(book, lines.len(), securities, cash) {
-        return Some(OpeningFault::TooSmall(part));
-    }
+    check_room(book, lines.len(), securities, cash).map_err(OpeningFault::TooSmall)?;
     if !house_is_empty(securities, book.assets().len()) {
-        return Some(OpeningFault::HouseHolds(Side::Securities));
+        return Err(OpeningFault::HouseHolds(Side::Securities));
     }
     if !house_is_empty(cash, CASH_ASSETS) {
-        return Some(OpeningFault::HouseHolds(Side::Cash));
+        return Err(OpeningFault::HouseHolds(Side::Cash));
     }
-    None
+    Ok(())
 }
 
 impl Expiry {
     // In session 1, with nothing notified, paired, drawn or closed.
     fn new(book: Book) -> Expiry
-        ensures { New (contents book) result }
+        ensures { New (contents book) result.state }
     {
-        Expiry {
+        let state = State {
             book,
             session: Session::MembersNotices,
             lots: [SellerLots::NONE; MOST_HOLDERS],
@@ -71,7 +66,8 @@ impl Expiry {
             draws: [0; AGENT_PLACES],
             nets: [0; AGENT_PLACES],
             claims: [0; AGENT_PLACES],
-        }
+        };
+        Expiry { state }
     }
 
     fn open_checked<S: Balances, C: Balances>(
@@ -80,11 +76,9 @@ impl Expiry {
         securities: &S,
         cash: &C,
     ) -> Result<Expiry, OpeningFault>
-        ensures opens_or_refuses { OpensOrRefuses (opening (contents book) lines.now (meaning S.Balances securities.now) (meaning C.Balances cash.now)) (λ e. seen e lines.now (meaning S.Balances securities.now) (meaning C.Balances cash.now)) result }
+        ensures opens_or_refuses { OpensOrRefuses (opening (contents book) lines.now (meaning S.Balances securities.now) (meaning C.Balances cash.now)) (λ e. seen e.state lines.now (meaning S.Balances securities.now) (meaning C.Balances cash.now)) result }
     {
-        if let Some(fault) = refusal(&book, lines, securities, cash) {
-            return Err(fault);
-        }
+        check_opening(&book, lines, securities, cash)?;
         Ok(Expiry::new(book))
     }
 
@@ -96,7 +90,7 @@ impl Expiry {
         securities: &S,
         cash: &C,
     ) -> Result<Expiry, OpeningFault>
-        ensures opens_or_refuses { OpensOrRefuses (opening (contents book) lines.now (meaning S.Balances securities.now) (meaning C.Balances cash.now)) (λ e. seen e lines.now (meaning S.Balances securities.now) (meaning C.Balances cash.now)) result }
+        ensures opens_or_refuses { OpensOrRefuses (opening (contents book) lines.now (meaning S.Balances securities.now) (meaning C.Balances cash.now)) (λ e. seen e.state lines.now (meaning S.Balances securities.now) (meaning C.Balances cash.now)) result }
     {
         Expiry::open_checked(book, lines, securities, cash)
     }

@@ -5,33 +5,19 @@ ghost use Rattle.book.specs.Books.{holder as holder_of, volume as volume_of};
 ghost use Rattle.pairing.specs.Lines.{lot as lot_of, unnotified as unnotified_of, net as net_of};
 ghost use Rattle.rules.specs.Tally.{claim as claim_of};
 ghost use Rattle.rules.specs.Histories.{tally_of};
-ghost use Rattle.expiry.specs.Seeing.{record_of, Tells};
+ghost use Rattle.state.specs.Seeing.{record_of};
+ghost use Rattle.expiry.specs.Opened.{Tells};
 
 use crate::expiry::Expiry;
 use book::book::Book;
 use pairs::lots::SellerLots;
 use rules::session::Session;
 
-// A count by its place; 0 where there is none.
-fn count_at(counts: &[u32], place: usize) -> u32
-    ensures { result ≡ slice_index counts.now place }
-{
-    if place < counts.len() {
-        counts[place]
-    } else {
-        0
-    }
-}
-
 // An amount by its agent; 0 where there is none.
 fn amount_of(amounts: &[i64], agent: usize) -> i64
     ensures { result ≡ slice_index_or amounts.now agent (pos 0) }
 {
-    if agent < amounts.len() {
-        amounts[agent]
-    } else {
-        0
-    }
+    amounts.get(agent).copied().unwrap_or(0)
 }
 
 // The record of a row; an empty one where there is none.
@@ -39,64 +25,60 @@ fn record_at(records: &[SellerLots], row: usize) -> SellerLots
     ensures lots { (a : ℕ) → slice_index result.lots a ≡ slice_index (record_of records.now row).lots a }
     ensures notified { result.notified ≡ (record_of records.now row).notified }
 {
-    if row == 0 || row > records.len() {
-        SellerLots::NONE
-    } else {
-        records[row - 1]
-    }
+    row.checked_sub(1)
+        .and_then(|place| records.get(place).copied())
+        .unwrap_or(SellerLots::NONE)
 }
 
 // The contracts of the holder in a row; 0 where there is nobody.
 fn volume_at(book: &Book, row: usize) -> u32
     ensures { result ≡ volume_of (holder_of (contents book.now) row) }
 {
-    let holders = book.holders();
-    if row == 0 || row > holders.len() {
-        0
-    } else {
-        holders[row - 1].volume()
-    }
+    row.checked_sub(1)
+        .and_then(|place| book.holders().get(place))
+        .map_or(0, |h| h.volume())
 }
 
 impl Expiry {
     pub fn session(&self) -> Session
-        ensures tells_the_session { Tells self.now (λ o h. result ≡ (tally_of o h).session) }
+        ensures tells_the_session { Tells self.now.state (λ o h. result ≡ (tally_of o h).session) }
     {
-        self.session
+        self.state.session
     }
 
     // The lines that pairing made; 0 before it.
     pub fn line_count(&self) -> usize
-        ensures tells_the_lines_made { Tells self.now (λ o h. result ≡ length (tally_of o h).lines) }
+        ensures tells_the_lines_made { Tells self.now.state (λ o h. result ≡ length (tally_of o h).lines) }
     {
-        self.count
+        self.state.count
     }
 
     // The lot of the seller in a row for an asset.
     pub fn lot(&self, row: usize, asset: usize) -> u32
-        ensures tells_the_lot { Tells self.now (λ o h. result ≡ lot_of (tally_of o h).lots row asset) }
+        ensures tells_the_lot { Tells self.now.state (λ o h. result ≡ lot_of (tally_of o h).lots row asset) }
     {
-        count_at(&record_at(&self.lots, row).lots, asset)
+        let lots = record_at(&self.state.lots, row).lots;
+        lots.get(asset).copied().unwrap_or(0)
     }
 
     // The contracts of the seller in a row that stand in no lot.
     pub fn unnotified(&self, row: usize) -> u32
-        ensures tells_the_unnotified { Tells self.now (λ o h. result ≡ unnotified_of (tally_of o h).lots row (holder_of o.book row)) }
+        ensures tells_the_unnotified { Tells self.now.state (λ o h. result ≡ unnotified_of (tally_of o h).lots row (holder_of o.book row)) }
     {
-        volume_at(&self.book, row).saturating_sub(record_at(&self.lots, row).notified)
+        volume_at(&self.state.book, row).saturating_sub(record_at(&self.state.lots, row).notified)
     }
 
     // What the clients of an agent sell less what they buy, by value.
     pub fn net(&self, agent: usize) -> i64
-        ensures tells_the_net { Tells self.now (λ o h. result ≡ net_of o.book (tally_of o h).lines agent) }
+        ensures tells_the_net { Tells self.now.state (λ o h. result ≡ net_of o.book (tally_of o h).lines agent) }
     {
-        amount_of(&self.nets, agent)
+        amount_of(&self.state.nets, agent)
     }
 
     // What an agent is owed by differences, or owes.
     pub fn claim(&self, agent: usize) -> i64
-        ensures tells_the_claim { Tells self.now (λ o h. result ≡ claim_of o.book (tally_of o h) agent) }
+        ensures tells_the_claim { Tells self.now.state (λ o h. result ≡ claim_of o.book (tally_of o h) agent) }
     {
-        amount_of(&self.claims, agent)
+        amount_of(&self.state.claims, agent)
     }
 }

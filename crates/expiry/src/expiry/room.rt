@@ -3,23 +3,23 @@ ghost use Rattle.std.specs.Prelude.{◌≡◌, ◌*◌, not, ◌&&◌, leb, leng
 ghost use Rattle.book.specs.Data.{contents};
 ghost use Rattle.order.specs.First.{any};
 ghost use Rattle.register.specs.Registers.{meaning};
+ghost use Rattle.register.specs.Rules.{answer};
 ghost use Rattle.rules.specs.Tally.{cash_asset};
 ghost use Rattle.rules.specs.Verdict.{lines_a_holder, first_failed, room, too_small};
 
 use crate::expiry::Expiry;
 use book::book::Book;
+use book::limits::MOST_ASSETS;
 use book::records::Holder;
+use delivery::taking::CASH;
 use pairing::line::Line;
 use register::balances::Balances;
 use rules::call::Call;
 use rules::fault::{Cause, Fault, Part};
 use rules::side::Side;
 
-// Pairs are fewer than holders, and each makes at most one line for each of four assets.
-const LINES_A_HOLDER: usize = 4;
-
-// In the cash register the asset that is cash.
-const CASH: usize = 0;
+// Pairs are fewer than holders, and each makes at most one line for each asset.
+const LINES_A_HOLDER: usize = MOST_ASSETS;
 
 // Whether the table has places for all lines of the book.
 fn has_places(book: &Book, places: usize) -> bool
@@ -40,12 +40,7 @@ fn has_rows<S: Balances>(book: &Book, securities: &S) -> bool
 fn lacks_an_agent(holders: &[Holder], accounts: usize) -> bool
     ensures { result ≡ any (λ h. leb accounts h.agent) holders.now }
 {
-    for h in holders {
-        if accounts <= usize::from(h.agent) {
-            return true;
-        }
-    }
-    false
+    holders.iter().any(|h| accounts <= usize::from(h.agent))
 }
 
 // Whether the cash register has an account for each agent and one for the house, and cash.
@@ -55,44 +50,41 @@ fn has_agents<C: Balances>(book: &Book, cash: &C) -> bool
     !lacks_an_agent(book.holders(), cash.account_count()) && CASH < cash.asset_count()
 }
 
-// The first part that is too small for the book, if one is.
-pub(crate) fn lacking<S: Balances, C: Balances>(
+// Refuses with the first part that is too small for the book.
+pub(crate) fn check_room<S: Balances, C: Balances>(
     book: &Book,
     places: usize,
     securities: &S,
     cash: &C,
-) -> Option<Part>
-    ensures { result ≡ first_failed (room (contents book.now) places (meaning S.Balances securities.now) (meaning C.Balances cash.now)) }
+) -> Result<(), Part>
+    ensures { result ≡ answer (first_failed (room (contents book.now) places (meaning S.Balances securities.now) (meaning C.Balances cash.now))) }
 {
     if !has_places(book, places) {
-        return Some(Part::LineTable);
+        return Err(Part::LineTable);
     }
     if !has_rows(book, securities) {
-        return Some(Part::Register(Side::Securities));
+        return Err(Part::Register(Side::Securities));
     }
     if !has_agents(book, cash) {
-        return Some(Part::Register(Side::Cash));
+        return Err(Part::Register(Side::Cash));
     }
-    None
+    Ok(())
 }
 
 impl Expiry {
-    // The refusal of a call that finds too little room, if it does.
-    pub(crate) fn too_small<S: Balances, C: Balances>(
+    // Refuses a call that finds too little room.
+    pub(crate) fn check_call<S: Balances, C: Balances>(
         &self,
         lines: &[Line],
         securities: &S,
         cash: &C,
         call: Call,
-    ) -> Option<Fault>
-        ensures { result ≡ too_small (contents self.now.book) (length lines.now) (meaning S.Balances securities.now) (meaning C.Balances cash.now) call }
+    ) -> Result<(), Fault>
+        ensures { result ≡ answer (too_small (contents self.now.state.book) (length lines.now) (meaning S.Balances securities.now) (meaning C.Balances cash.now) call) }
     {
-        match lacking(&self.book, lines.len(), securities, cash) {
-            Some(part) => Some(Fault {
-                cause: Cause::TooSmall(part),
-                call,
-            }),
-            None => None,
-        }
+        check_room(&self.state.book, lines.len(), securities, cash).map_err(|part| Fault {
+            cause: Cause::TooSmall(part),
+            call,
+        })
     }
 }

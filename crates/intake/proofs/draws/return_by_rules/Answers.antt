@@ -10,23 +10,17 @@ use Rattle.state.specs.Calls.{end_call}
 use Rattle.intake.proofs.ReturnedDraws.{draws_go_back, returned_stands}
 use Rattle.intake.proofs.draws.return_by_rules.Goals as goal
 
-pub returns-in_err-pay_agents : goal.returns-in_err-pay_agents
-returns-in_err-pay_agents g c =
+pub returns-in_err-pay_agents-clause-goes_on_by_the_rules : goal.returns-in_err-pay_agents-clause-goes_on_by_the_rules
+returns-in_err-pay_agents-clause-goes_on_by_the_rules g c =
     let m : Meaning = meaning g.C.Balances c.args.cash.now in
-    record {
-      goes_on_by_the_rules = λ lines s in_4 o h st now'.
-          absurd (ok_err (c.pay_agents.ensures.pays_where_no_move_is_refused (draws_go_back o h c.args.state.now lines s m st now')).0 c.in_err-pay_agents.was);
-      memory_is_kept = c.pay_agents.ensures.memory_is_kept;
-    }
+    λ lines s in_4 o h st now'.
+    absurd (ok_err (c.pay_agents.ensures.pays_where_no_move_is_refused (draws_go_back o h c.args.state.now lines s m st now')).0 c.in_err-pay_agents.was)
 
-pub returns : goal.returns
-returns g c =
+pub returns-clause-goes_on_by_the_rules : goal.returns-clause-goes_on_by_the_rules
+returns-clause-goes_on_by_the_rules g c =
     let m : Meaning = meaning g.C.Balances c.args.cash.now in
     let m' : Meaning = meaning g.C.Balances c.pay_agents.new.cash in
-    record {
-      goes_on_by_the_rules = λ lines s in_4 o h st now'.
-          let paid = c.pay_agents.ensures.pays_where_no_move_is_refused (draws_go_back o h c.args.state.now lines s m st now') in
-          subst (λ (x : State). Stands o ((end_call, Ok Done) ∷ h) (seen x lines s m')) (sym c.begin_partial.ensures)
-          (returned_stands o h c.args.state.now lines s m st now' m' in_4 paid.1);
-      memory_is_kept = c.pay_agents.ensures.memory_is_kept;
-    }
+    λ lines s in_4 o h st now'.
+    let paid = c.pay_agents.ensures.pays_where_no_move_is_refused (draws_go_back o h c.args.state.now lines s m st now') in
+    subst (λ (x : State). Stands o ((end_call, Ok Done) ∷ h) (seen x lines s m')) (sym c.begin_partial.ensures)
+    (returned_stands o h c.args.state.now lines s m st now' m' in_4 paid.1)

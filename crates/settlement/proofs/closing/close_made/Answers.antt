@@ -11,29 +11,23 @@ use Rattle.state.specs.Calls.{close_call}
 use Rattle.settlement.proofs.ClosedOut.{units_go_back, closed_stands}
 use Rattle.settlement.proofs.closing.close_made.Goals as goal
 
-pub returns-in_err-return_units : goal.returns-in_err-return_units
-returns-in_err-return_units g c =
+pub returns-in_err-return_units-clause-goes_on_by_the_rules : goal.returns-in_err-return_units-clause-goes_on_by_the_rules
+returns-in_err-return_units-clause-goes_on_by_the_rules g c =
     let s : Meaning = meaning g.S.Balances c.args.securities.now in
-    record {
-      goes_on_by_the_rules = λ cash rest many o h st now'.
-          absurd (ok_err
-          (c.return_units.ensures.returns_where_no_move_is_refused
-          (units_go_back o h c.args.state.now c.args.lines.now rest s cash st many now' c.terms.result.multiplier (ap (λ (x : Terms). x.multiplier) c.terms.ensures.value))).0
-          c.in_err-return_units.was);
-      memory_is_kept = c.return_units.ensures.memory_is_kept;
-    }
+    λ cash rest many o h st now'.
+    absurd (ok_err
+    (c.return_units.ensures.returns_where_no_move_is_refused
+    (units_go_back o h c.args.state.now c.args.lines.now rest s cash st many now' c.terms.result.multiplier (ap (λ (x : Terms). x.multiplier) c.terms.ensures.value))).0
+    c.in_err-return_units.was)
 
-pub returns : goal.returns
-returns g c =
+pub returns-clause-goes_on_by_the_rules : goal.returns-clause-goes_on_by_the_rules
+returns-clause-goes_on_by_the_rules g c =
     let s : Meaning = meaning g.S.Balances c.args.securities.now in
     let s' : Meaning = meaning g.S.Balances c.return_units.new.securities in
-    record {
-      goes_on_by_the_rules = λ cash rest many o h st now'.
-          let by_book = ap (λ (x : Terms). x.multiplier) c.terms.ensures.value in
-          let back = c.return_units.ensures.returns_where_no_move_is_refused
-          (units_go_back o h c.args.state.now c.args.lines.now rest s cash st many now' c.terms.result.multiplier by_book) in
-          subst (λ (x : State). Stands o ((close_call, Ok Done) ∷ h) (seen x (c.return_units.new.lines ++ rest) s' cash)) (sym c.closed.ensures.closed_with_claims)
-          (closed_stands o h c.args.state.now c.args.lines.now rest s cash st many now' c.terms.result.multiplier by_book
-          c.return_units.new.lines s' c.claims-owed.result back.2 back.1 c.closed.ensures.a_place_for_each c.claims-owed.ensures.each_claim);
-      memory_is_kept = c.return_units.ensures.memory_is_kept;
-    }
+    λ cash rest many o h st now'.
+    let by_book = ap (λ (x : Terms). x.multiplier) c.terms.ensures.value in
+    let back = c.return_units.ensures.returns_where_no_move_is_refused
+    (units_go_back o h c.args.state.now c.args.lines.now rest s cash st many now' c.terms.result.multiplier by_book) in
+    subst (λ (x : State). Stands o ((close_call, Ok Done) ∷ h) (seen x (c.return_units.new.lines ++ rest) s' cash)) (sym c.closed.ensures.closed_with_claims)
+    (closed_stands o h c.args.state.now c.args.lines.now rest s cash st many now' c.terms.result.multiplier by_book
+    c.return_units.new.lines s' c.claims-owed.result back.2 back.1 c.closed.ensures.a_place_for_each c.claims-owed.ensures.each_claim)

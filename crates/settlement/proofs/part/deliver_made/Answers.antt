@@ -1,4 +1,4 @@
-use Rattle.std.proofs.Common.{◌∷◌, ◌++◌, set, Err, Result, sym, refl, ap, ◌∙◌, subst}
+use Rattle.std.proofs.Common.{◌∷◌, ◌++◌, set, Err, Result, sym, ap, ◌∙◌, subst}
 use Rattle.std.proofs.lemmas.Result.{err_from_is_err_and}
 use Rattle.register.specs.Registers.{meaning}
 use Rattle.rules.specs.declared.answer.Answer.{Answer}
@@ -10,43 +10,31 @@ use Rattle.state.specs.Calls.{line_call}
 use Rattle.settlement.proofs.LineSettled.{no_such_line, nothing_in, line_refused, line_accepted}
 use Rattle.settlement.proofs.part.deliver_made.Goals as goal
 
-pub returns-in_default : goal.returns-in_default
-returns-in_default g c = record {
-  goes_on_by_the_rules = λ rest many o h st now'.
-      no_such_line o h c.args.state.now c.args.lines.now rest (meaning g.S.Balances c.args.securities.now) (meaning g.C.Balances c.args.cash.now) st many c.args.line now'
-      c.in_default.ensures;
-  memory_is_kept = (refl, refl);
-}
+pub returns-in_default-clause-goes_on_by_the_rules : goal.returns-in_default-clause-goes_on_by_the_rules
+returns-in_default-clause-goes_on_by_the_rules g c = λ rest many o h st now'.
+    no_such_line o h c.args.state.now c.args.lines.now rest (meaning g.S.Balances c.args.securities.now) (meaning g.C.Balances c.args.cash.now) st many c.args.line now'
+    c.in_default.ensures
 
-pub returns-then-contracts-eq0 : goal.returns-then-contracts-eq0
-returns-then-contracts-eq0 g c = record {
-  goes_on_by_the_rules = λ rest many o h st now'.
-      nothing_in o h c.args.state.now c.args.lines.now rest (meaning g.S.Balances c.args.securities.now) (meaning g.C.Balances c.args.cash.now) st many c.args.line now'
-      c.in-Some.place c.in-Some.ensures.0 c.in-Some.ensures.1 c.in-Some.ensures.2 c.inside-contracts.result c.inside-contracts.ensures.taken_less_settled_and_returned c.if-contracts-eq0.true;
-  memory_is_kept = (refl, refl);
-}
+pub returns-then-contracts-eq0-clause-goes_on_by_the_rules : goal.returns-then-contracts-eq0-clause-goes_on_by_the_rules
+returns-then-contracts-eq0-clause-goes_on_by_the_rules g c = λ rest many o h st now'.
+    nothing_in o h c.args.state.now c.args.lines.now rest (meaning g.S.Balances c.args.securities.now) (meaning g.C.Balances c.args.cash.now) st many c.args.line now'
+    c.in-Some.place c.in-Some.ensures.0 c.in-Some.ensures.1 c.in-Some.ensures.2 c.inside-contracts.result c.inside-contracts.ensures.taken_less_settled_and_returned c.if-contracts-eq0.true
 
-pub returns-in_err-settle_line : goal.returns-in_err-settle_line
-returns-in_err-settle_line g c =
+pub returns-in_err-settle_line-clause-goes_on_by_the_rules : goal.returns-in_err-settle_line-clause-goes_on_by_the_rules
+returns-in_err-settle_line-clause-goes_on_by_the_rules g c =
     let p = err_from_is_err_and c.from_residual.result c.from_residual.ensures.1 in
-    record {
-      goes_on_by_the_rules = λ rest many o h st now'.
-          subst (λ (r : Result Answer Cause). Stands o ((line_call c.args.line, answered (line_call c.args.line) r) ∷ h)
-          (seen c.args.state.now (set c.args.lines.now c.in-Some.place c.settle_line.new.line ++ rest) (meaning g.S.Balances c.settle_line.new.securities) (meaning g.C.Balances c.settle_line.new.cash)))
-          (sym (p.1 ∙ ap Err p.2))
-          (line_refused o h c.args.state.now c.args.lines.now rest (meaning g.S.Balances c.args.securities.now) (meaning g.C.Balances c.args.cash.now) st many c.args.line now'
-          c.in-Some.place c.in-Some.ensures.0 c.in-Some.ensures.1 c.in-Some.ensures.2 c.inside-contracts.result c.inside-contracts.ensures.taken_less_settled_and_returned c.if-contracts-eq0.false
-          c.settle_line.new.line (meaning g.S.Balances c.settle_line.new.securities) (meaning g.C.Balances c.settle_line.new.cash) c.settle_line.result
-          c.settle_line.ensures.settles_where_no_move_is_refused c.settle_line.ensures.refused_moves_nothing c.in_err-settle_line.field-0.0 c.in_err-settle_line.was);
-      memory_is_kept = c.settle_line.ensures.memory_is_kept;
-    }
+    λ rest many o h st now'.
+    subst (λ (r : Result Answer Cause). Stands o ((line_call c.args.line, answered (line_call c.args.line) r) ∷ h)
+    (seen c.args.state.now (set c.args.lines.now c.in-Some.place c.settle_line.new.line ++ rest) (meaning g.S.Balances c.settle_line.new.securities) (meaning g.C.Balances c.settle_line.new.cash)))
+    (sym (p.1 ∙ ap Err p.2))
+    (line_refused o h c.args.state.now c.args.lines.now rest (meaning g.S.Balances c.args.securities.now) (meaning g.C.Balances c.args.cash.now) st many c.args.line now'
+    c.in-Some.place c.in-Some.ensures.0 c.in-Some.ensures.1 c.in-Some.ensures.2 c.inside-contracts.result c.inside-contracts.ensures.taken_less_settled_and_returned c.if-contracts-eq0.false
+    c.settle_line.new.line (meaning g.S.Balances c.settle_line.new.securities) (meaning g.C.Balances c.settle_line.new.cash) c.settle_line.result
+    c.settle_line.ensures.settles_where_no_move_is_refused c.settle_line.ensures.refused_moves_nothing c.in_err-settle_line.field-0.0 c.in_err-settle_line.was)
 
-pub returns : goal.returns
-returns g c = record {
-  goes_on_by_the_rules = λ rest many o h st now'.
-      line_accepted o h c.args.state.now c.args.lines.now rest (meaning g.S.Balances c.args.securities.now) (meaning g.C.Balances c.args.cash.now) st many c.args.line now'
-      c.in-Some.place c.in-Some.ensures.0 c.in-Some.ensures.1 c.in-Some.ensures.2 c.inside-contracts.result c.inside-contracts.ensures.taken_less_settled_and_returned c.if-contracts-eq0.false
-      c.settle_line.new.line (meaning g.S.Balances c.settle_line.new.securities) (meaning g.C.Balances c.settle_line.new.cash) c.settle_line.result
-      c.settle_line.ensures.settles_where_no_move_is_refused c.settle_line.ensures.refused_moves_nothing c.in_ok-settle_line.was;
-  memory_is_kept = c.settle_line.ensures.memory_is_kept;
-}
+pub returns-clause-goes_on_by_the_rules : goal.returns-clause-goes_on_by_the_rules
+returns-clause-goes_on_by_the_rules g c = λ rest many o h st now'.
+    line_accepted o h c.args.state.now c.args.lines.now rest (meaning g.S.Balances c.args.securities.now) (meaning g.C.Balances c.args.cash.now) st many c.args.line now'
+    c.in-Some.place c.in-Some.ensures.0 c.in-Some.ensures.1 c.in-Some.ensures.2 c.inside-contracts.result c.inside-contracts.ensures.taken_less_settled_and_returned c.if-contracts-eq0.false
+    c.settle_line.new.line (meaning g.S.Balances c.settle_line.new.securities) (meaning g.C.Balances c.settle_line.new.cash) c.settle_line.result
+    c.settle_line.ensures.settles_where_no_move_is_refused c.settle_line.ensures.refused_moves_nothing c.in_ok-settle_line.was

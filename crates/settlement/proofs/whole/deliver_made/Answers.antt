@@ -1,4 +1,4 @@
-use Rattle.std.proofs.Common.{◌∷◌, ◌++◌, Ok, sym, refl, ◌∙◌, subst}
+use Rattle.std.proofs.Common.{◌∷◌, ◌++◌, Ok, sym, ◌∙◌, subst}
 use Rattle.register.specs.Registers.{meaning}
 use Rattle.register.specs.Rules.{Meaning}
 use Rattle.rules.specs.declared.side.Side.TheVariants.{Securities, Cash}
@@ -11,42 +11,33 @@ use Rattle.state.specs.Calls.{whole_call}
 use Rattle.settlement.proofs.WholeSettled.{in_range, not_all_in, all_go_out, settled_stands}
 use Rattle.settlement.proofs.whole.deliver_made.Goals as goal
 
-pub returns-then-not-all_in : goal.returns-then-not-all_in
-returns-then-not-all_in g c =
+pub returns-then-not-all_in-clause-goes_on_by_the_rules : goal.returns-then-not-all_in-clause-goes_on_by_the_rules
+returns-then-not-all_in-clause-goes_on_by_the_rules g c =
     let s : Meaning = meaning g.S.Balances c.args.securities.now in
     let m : Meaning = meaning g.C.Balances c.args.cash.now in
-    record {
-      goes_on_by_the_rules = λ rest many o h st now'.
-          let fit = in_range o h c.args.state.now c.args.lines.now rest s m st many now' in
-          not_all_in o h c.args.state.now c.args.lines.now rest s m st many now' (sym (c.all_in.ensures fit) ∙ c.if-not-all_in.true);
-      memory_is_kept = (refl, refl);
-    }
+    λ rest many o h st now'.
+    let fit = in_range o h c.args.state.now c.args.lines.now rest s m st many now' in
+    not_all_in o h c.args.state.now c.args.lines.now rest s m st many now' (sym (c.all_in.ensures fit) ∙ c.if-not-all_in.true)
 
-pub returns-in_err-settle_whole : goal.returns-in_err-settle_whole
-returns-in_err-settle_whole g c =
+pub returns-in_err-settle_whole-clause-goes_on_by_the_rules : goal.returns-in_err-settle_whole-clause-goes_on_by_the_rules
+returns-in_err-settle_whole-clause-goes_on_by_the_rules g c =
     let s : Meaning = meaning g.S.Balances c.args.securities.now in
     let m : Meaning = meaning g.C.Balances c.args.cash.now in
-    record {
-      goes_on_by_the_rules = λ rest many o h st now'.
-          let fit = in_range o h c.args.state.now c.args.lines.now rest s m st many now' in
-          let out = all_go_out o h c.args.state.now c.args.lines.now rest s m st many now' (sym (c.all_in.ensures fit) ∙ c.if-not-all_in.false) in
-          absurd (ok_err (c.settle_whole.ensures.settles_where_no_move_is_refused fit (out Securities) (out Cash)).0 c.in_err-settle_whole.was);
-      memory_is_kept = c.settle_whole.ensures.memory_is_kept;
-    }
+    λ rest many o h st now'.
+    let fit = in_range o h c.args.state.now c.args.lines.now rest s m st many now' in
+    let out = all_go_out o h c.args.state.now c.args.lines.now rest s m st many now' (sym (c.all_in.ensures fit) ∙ c.if-not-all_in.false) in
+    absurd (ok_err (c.settle_whole.ensures.settles_where_no_move_is_refused fit (out Securities) (out Cash)).0 c.in_err-settle_whole.was)
 
-pub returns : goal.returns
-returns g c =
+pub returns-clause-goes_on_by_the_rules : goal.returns-clause-goes_on_by_the_rules
+returns-clause-goes_on_by_the_rules g c =
     let s : Meaning = meaning g.S.Balances c.args.securities.now in
     let m : Meaning = meaning g.C.Balances c.args.cash.now in
     let s' : Meaning = meaning g.S.Balances c.settle_whole.new.securities in
     let m' : Meaning = meaning g.C.Balances c.settle_whole.new.cash in
-    record {
-      goes_on_by_the_rules = λ rest many o h st now'.
-          let fit = in_range o h c.args.state.now c.args.lines.now rest s m st many now' in
-          let ready = sym (c.all_in.ensures fit) ∙ c.if-not-all_in.false in
-          let out = all_go_out o h c.args.state.now c.args.lines.now rest s m st many now' ready in
-          let did = c.settle_whole.ensures.settles_where_no_move_is_refused fit (out Securities) (out Cash) in
-          subst (λ (x : State). Stands o ((whole_call, Ok Done) ∷ h) (seen x (c.settle_whole.new.lines ++ rest) s' m')) (sym c.settled.ensures)
-          (settled_stands o h c.args.state.now c.args.lines.now rest s m st many now' ready c.settle_whole.new.lines s' m' did.1 did.2 did.3);
-      memory_is_kept = c.settle_whole.ensures.memory_is_kept;
-    }
+    λ rest many o h st now'.
+    let fit = in_range o h c.args.state.now c.args.lines.now rest s m st many now' in
+    let ready = sym (c.all_in.ensures fit) ∙ c.if-not-all_in.false in
+    let out = all_go_out o h c.args.state.now c.args.lines.now rest s m st many now' ready in
+    let did = c.settle_whole.ensures.settles_where_no_move_is_refused fit (out Securities) (out Cash) in
+    subst (λ (x : State). Stands o ((whole_call, Ok Done) ∷ h) (seen x (c.settle_whole.new.lines ++ rest) s' m')) (sym c.settled.ensures)
+    (settled_stands o h c.args.state.now c.args.lines.now rest s m st many now' ready c.settle_whole.new.lines s' m' did.1 did.2 did.3)

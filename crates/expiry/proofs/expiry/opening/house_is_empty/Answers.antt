@@ -1,19 +1,13 @@
-use Rattle.std.proofs.Common.{◌≡◌, ℕ, true, sym, ◌∙◌, subst, arith}
+use Rattle.std.proofs.Common.{ℕ, eqb, refl, ◌∙◌, arith, rules, tests}
+use Rattle.std.proofs.lemmas.Iterator.{YieldsList-from_range}
+use Rattle.std.proofs.lemmas.Iterator.Search.{all_from_yields_List}
 use Rattle.register.specs.Registers.{meaning}
-use Rattle.rules.specs.Verdict.{house_empty}
-use Rattle.expiry.proofs.Searches.{empty_more, not_empty}
+use Rattle.register.specs.Rules.{Meaning}
+use Rattle.expiry.proofs.EmptyHouse.{from_the_first}
 use Rattle.expiry.proofs.expiry.opening.house_is_empty.Goals as goal
-
-pub returns-then-balance_of-ne0 : goal.returns-then-balance_of-ne0
-returns-then-balance_of-ne0 g c =
-    sym (not_empty (meaning g.R.Balances c.args.register.now) c.args.assets c.loop-asset.asset c.loop-asset-test.true
-    (λ e. c.if-balance_of-ne0.true (c.balance_of.ensures.tells_the_balance ∙ e)))
-
-pub loop-asset-preserved : goal.loop-asset-preserved
-loop-asset-preserved g c =
-    empty_more (meaning g.R.Balances c.args.register.now) c.loop-asset.asset (sym c.balance_of.ensures.tells_the_balance ∙ c.if-balance_of-ne0.false) c.loop-asset.invariant
 
 pub returns : goal.returns
 returns g c =
-    let e : c.loop-asset.asset ≡ c.args.assets = omega arith in
-    sym (subst (λ (n : ℕ). house_empty (meaning g.R.Balances c.args.register.now) n ≡ true) e c.loop-asset.invariant)
+    let m : Meaning = meaning g.R.Balances c.args.register.now in
+    all_from_yields_List (λ (i : ℕ). eqb (m.balance 0 i) 0) _ _ _ c.all.ensures.ran (YieldsList-from_range 0 c.args.assets c.args.assets refl (omega arith)) (λ x b q k. search (rules, tests))
+    ∙ from_the_first m c.args.assets

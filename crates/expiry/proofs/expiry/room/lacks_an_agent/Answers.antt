@@ -1,23 +1,11 @@
-use Rattle.std.proofs.Common.{Bool, leb, get_or, sym, ◌∙◌, arith}
-use Rattle.std.proofs.lemmas.Bool.{le-leb, lt-leb}
+use Rattle.std.proofs.Common.{leb, ◌∙◌, rules, tests}
+use Rattle.std.proofs.lemmas.Iterator.{YieldsList-from_slice}
+use Rattle.std.proofs.lemmas.Iterator.Search.{any_from_yields_List}
 use Rattle.book.specs.declared.records.Holder.{Holder}
-use Rattle.book.specs.Books.{nobody}
-use Rattle.expiry.proofs.Searches.{any_yes, any_no, any_end}
+use Rattle.state.proofs.AnyOf.{any_of}
 use Rattle.expiry.proofs.expiry.room.lacks_an_agent.Goals as goal
-
-pub returns-then-accounts-from : goal.returns-then-accounts-from
-returns-then-accounts-from c =
-    let P : Holder → Bool = λ h. leb c.args.accounts h.agent in
-    sym (c.loop-h.invariant ∙ any_yes P c.args.holders.now c.loop-h.h-index nobody c.loop-h-test.true
-    (le-leb c.args.accounts (get_or c.args.holders.now c.loop-h.h-index nobody).agent (omega arith)))
-
-pub loop-h-preserved : goal.loop-h-preserved
-loop-h-preserved c =
-    let P : Holder → Bool = λ h. leb c.args.accounts h.agent in
-    c.loop-h.invariant ∙ any_no P c.args.holders.now c.loop-h.h-index nobody c.loop-h-test.true
-    (lt-leb c.args.accounts (get_or c.args.holders.now c.loop-h.h-index nobody).agent (omega arith))
 
 pub returns : goal.returns
 returns c =
-    let P : Holder → Bool = λ h. leb c.args.accounts h.agent in
-    sym (c.loop-h.invariant ∙ any_end P c.args.holders.now c.loop-h.h-index nobody c.loop-h-test.false)
+    any_from_yields_List (λ (h : Holder). leb c.args.accounts h.agent) _ _ _ c.any.ensures.ran (YieldsList-from_slice c.args.holders.now cc) (λ x b q k. search (rules, tests))
+    ∙ any_of (λ (h : Holder). leb c.args.accounts h.agent) c.args.holders.now

@@ -1,2 +1,0 @@
-pub mod Opened
-pub mod Running

@@ -1,4 +1,0 @@
-// The engine: one expiry over its lines and any two registers.
-#![tactic(auto)]
-
-pub mod expiry;
