@@ -28,6 +28,7 @@ impl<'a> DayBook<'a> {
 }
 
 impl DayBook<'_> {
+    // Behind `&self`: of a field passed on as `&[u64]` behind `&mut self` the check would know its length alone.
     fn counted(&self, accounts: usize, assets: usize) -> Result<Counts, MakeFault>
         ensures fault { refusal result ≡ lay_out_refused self.now.counts.accounts self.now.cells.now accounts assets }
         ensures laid_out { IfOk result (λ k. (self.now.counts.accounts ≡ 0) × LaidOut self.now.cells.now accounts assets k) }

@@ -1,6 +1,5 @@
 // Memory laid out as a table.
-ghost use Rattle.std.specs.Prelude.{◌≡◌, IfOk, None};
-ghost use Rattle.std.specs.Prelude.{ℕ, ◌<◌, slice_index};
+ghost use Rattle.std.specs.Prelude.{◌≡◌, ℕ, ◌<◌, IfOk, None, slice_index};
 ghost use Rattle.table_register.specs.Make.{column, make_refused, lay_out_refused, refusal};
 ghost use Rattle.table_register.specs.Laid.{LaidOut};
 
@@ -23,6 +22,7 @@ impl Counts {
         }
     }
 
+    // The counts of memory laid out for the first time.
     fn laid_out_once(
         &self,
         cells: &[u64],

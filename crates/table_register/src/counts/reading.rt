@@ -1,7 +1,6 @@
 // What the counts tell, alone and of memory.
 ghost use Rattle.std.specs.Prelude.{◌≡◌};
-ghost use Rattle.table_register.specs.Table.{cell, issued, table_meaning};
-ghost use Rattle.table_register.specs.Make.{nothing};
+ghost use Rattle.table_register.specs.Table.{cell, issued};
 
 use crate::counts::Counts;
 use register::limits::MOST_ASSETS;
@@ -19,7 +18,7 @@ impl Counts {
         }
     }
 
-    // The balance that memory has as a table of these counts.
+    // The balance that memory has as a table of these counts, 0 where account or asset is unknown.
     pub fn balance_in(&self, cells: &[u64], account: usize, asset: usize) -> u64
         ensures tells_the_balance { result ≡ cell cells.now self.now.accounts self.now.assets account asset }
     {
@@ -30,6 +29,7 @@ impl Counts {
         cells.get(place).copied().unwrap_or(0)
     }
 
+    // The issue of an asset, 0 where it is unknown.
     pub fn issue_of(&self, asset: usize) -> u64
         ensures tells_the_issue { result ≡ issued self.now.issues self.now.assets asset }
     {

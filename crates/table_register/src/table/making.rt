@@ -1,15 +1,13 @@
 // How a table register is made: over memory, and then laid out in it.
-ghost use Rattle.std.specs.Prelude.{◌≡◌, ℕ, ◌<◌, IfOk, None, slice_index};
+ghost use Rattle.std.specs.Prelude.{◌≡◌, IfOk};
 ghost use Rattle.register.specs.Rules.{answer, unless_refused};
-ghost use Rattle.table_register.specs.Make.{column, make_refused, lay_out_refused, refusal, memory_meaning, nothing};
+ghost use Rattle.table_register.specs.Make.{lay_out_refused, refusal, memory_meaning, nothing};
 ghost use Rattle.table_register.specs.Laid.{LaidOut};
 ghost use Rattle.table_register.specs.TableMeaning.{means};
 
 use crate::counts::Counts;
-use crate::issues::issues_of;
 use crate::table::TableRegister;
 use register::fault::MakeFault;
-use register::limits::MOST_ASSETS;
 
 impl<'a> TableRegister<'a> {
     // A register of no account and no asset over `cells`, to be laid out.
@@ -26,6 +24,7 @@ impl<'a> TableRegister<'a> {
 }
 
 impl TableRegister<'_> {
+    // Behind `&self`: of a field passed on as `&[u64]` behind `&mut self` the check would know its length alone.
     fn counted(&self, accounts: usize, assets: usize) -> Result<Counts, MakeFault>
         ensures fault { refusal result ≡ lay_out_refused self.now.counts.accounts self.now.cells.now accounts assets }
         ensures laid_out { IfOk result (LaidOut self.now.cells.now accounts assets) }
