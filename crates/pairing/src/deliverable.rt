@@ -1,5 +1,5 @@
 // A deliverable asset with its market price and its invoice price.
-#[derive(Clone, Copy)]
+#[derive(Clone, Copy, Default, PartialEq, Eq, Debug)]
 pub struct Deliverable {
     pub asset: u8,
     pub market: u32,

@@ -2,7 +2,7 @@
 use crate::stage::Stage;
 
 // A holder with the contracts that are not paired yet.
-#[derive(Clone, Copy)]
+#[derive(Clone, Copy, Default, PartialEq, Eq, Debug)]
 pub struct Unpaired {
     pub member: u16,
     pub number: u32,
@@ -13,7 +13,7 @@ pub struct Unpaired {
 }
 
 // Contracts of a buyer against those of a seller, both by their place among the holders, from 0.
-#[derive(Clone, Copy)]
+#[derive(Clone, Copy, Default, PartialEq, Eq, Debug)]
 pub struct Pair {
     pub stage: Stage,
     pub buyer: usize,

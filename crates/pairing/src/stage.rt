@@ -4,8 +4,9 @@ ghost use Rattle.std.specs.Prelude.{◌≡◌};
 ghost use Rattle.pairing.specs.StageNumber.{stage_number};
 
 // How near the holders of a pair stand: one member, one clearing member, one payment agent, or one book.
-#[derive(Clone, Copy)]
+#[derive(Clone, Copy, Default, PartialEq, Eq, Debug)]
 pub enum Stage {
+    #[default]
     Member,
     Clearing,
     Agent,

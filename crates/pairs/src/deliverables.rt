@@ -6,19 +6,12 @@ ghost use Rattle.book.specs.Books.{invoice_of};
 ghost use Rattle.book.specs.Data.{contents};
 ghost use Rattle.pairing.specs.Orders.{deliverable_leq, deliverables, place_or_0, first_deliverable};
 
+use arrayvec::ArrayVec;
 use book::book::Book;
 use book::limits::MOST_ASSETS;
 use book::records::Asset;
 use order::first_open;
 use pairing::deliverable::Deliverable;
-
-// What stands in a place of the table of deliverables that is not used. (An `ArrayVec` has no such places, but asks
-// `Default` of its records, which those of `pairing` do not have.)
-const NO_DELIVERABLE: Deliverable = Deliverable {
-    asset: 0,
-    market: 0,
-    invoice: 0,
-};
 
 // An asset with its number and both of its prices.
 fn deliverable(price: u32, asset: u8, x: &Asset) -> Deliverable
@@ -32,14 +25,15 @@ fn deliverable(price: u32, asset: u8, x: &Asset) -> Deliverable
 }
 
 // All assets with their numbers and prices.
-fn list_all(price: u32, assets: &[Asset], out: &mut [Deliverable])
-    requires { (length out.old ≡ length assets.now) × (length assets.now ≤ most_assets) }
-    ensures { out.new ≡ deliverables price 0 assets.now }
+fn list_all(price: u32, assets: &[Asset]) -> ArrayVec<Deliverable, MOST_ASSETS>
+    requires { length assets.now ≤ most_assets }
+    ensures { result.items ≡ deliverables price 0 assets.now }
 {
-    // by index: of what is written through a zip with `iter_mut` a proof knows nothing
+    let mut all = ArrayVec::new();
     for (i, x) in assets.iter().enumerate() {
-        out[i] = deliverable(price, i as u8, x); // the cast loses nothing: there are at most four
+        all.push(deliverable(price, i as u8, x)); // the cast loses nothing: there are at most four
     }
+    all
 }
 
 // The number of the first deliverable; none where there is no asset.
@@ -49,10 +43,7 @@ fn first_of(price: u32, assets: &[Asset]) -> Option<usize>
     ensures within { IfSome result (λ asset. asset < length assets.now) }
     ensures value { IfSome result (λ asset. asset ≡ place_or_0 (first deliverable_leq (λ _. true) (deliverables price 0 assets.now))) }
 {
-    let mut table = [NO_DELIVERABLE; MOST_ASSETS];
-    let list = &mut table[..assets.len()];
-    list_all(price, assets, list);
-    first_open(list)
+    first_open(list_all(price, assets).as_slice())
 }
 
 // The number of the first deliverable; none where the book is empty.

@@ -1,5 +1,5 @@
 // Pairing under way: the pairs of all groups, in the order made.
-ghost use Rattle.std.specs.Prelude.{◌≡◌, ◌+◌, ◌<◌, ◌≤◌, [], ◌∷◌, ◌++◌, map, length, take, IfSome};
+ghost use Rattle.std.specs.Prelude.{◌≡◌, ◌+◌, ◌<◌, ◌≤◌, [], ◌∷◌, ◌++◌, map, length, IfSome};
 ghost use Rattle.book.specs.Limits.{most_holders, most_member};
 ghost use Rattle.order.specs.First.{first, place_of};
 ghost use Rattle.pairing.specs.Orders.{holder_leq};
@@ -7,31 +7,14 @@ ghost use Rattle.pairing.specs.Pairing.{paired, unpaired, in_group, in_groups, n
 ghost use Rattle.pairing.proofs.PairRelations.{open_count};
 ghost use Rattle.pairs.specs.Search.{passes, next_pair, Takes, exhaust};
 
-use crate::search::{Choice, has_group, mask};
+use crate::search::{Choice, has_group, mask_all};
+use arrayvec::ArrayVec;
 use book::limits::{MOST_AGENT, MOST_HOLDERS, MOST_MEMBER};
 use book::records::Holder;
 use order::first_open;
 use pairing::pair::{Pair, Unpaired};
 use pairing::stage::{Group, Stage};
 use std::marker::Model;
-
-// What stands in the places of the tables that are not used. (An `ArrayVec` has no such places, but asks `Default` of
-// its records, which those of `pairing` do not have, and a copy of one is a `Result`.)
-const NO_HOLDER: Unpaired = Unpaired {
-    member: 0,
-    number: 0,
-    clearing: 0,
-    agent: 0,
-    buys: false,
-    volume: 0,
-};
-
-const NO_PAIR: Pair = Pair {
-    stage: Stage::Member,
-    buyer: 0,
-    seller: 0,
-    contracts: 0,
-};
 
 // Takes a pair's contracts off both of its holders.
 fn lower_both(holders: &mut [Unpaired], p: Pair)
@@ -56,43 +39,39 @@ fn unpaired_one(h: Holder) -> Unpaired
     }
 }
 
-// All holders with all of their contracts unpaired, in the first places of a table.
-fn unpaired_all(holders: &[Holder]) -> [Unpaired; MOST_HOLDERS]
+// All holders with all of their contracts unpaired.
+fn unpaired_all(holders: &[Holder]) -> ArrayVec<Unpaired, MOST_HOLDERS>
     requires { length holders.now ≤ most_holders }
-    ensures in_the_first_places { take (length holders.now) result ≡ map unpaired holders.now }
-    ensures whole_table { length result ≡ most_holders }
+    ensures { result.items ≡ map unpaired holders.now }
 {
-    let mut table = [NO_HOLDER; MOST_HOLDERS];
-    // by index: of what is written through a zip with `iter_mut` a proof knows nothing
-    for (i, h) in holders.iter().enumerate() {
-        table[i] = unpaired_one(*h);
+    let mut all = ArrayVec::new();
+    for h in holders {
+        all.push(unpaired_one(*h));
     }
-    table
+    all
 }
 
 // A pairing under way: the pairs made so far, and the holders with what each still has to pair. Its tables have fixed
 // sizes, so that it asks for no memory.
 #[derive(Drop)]
 pub(crate) struct Pairer {
-    pairs: [Pair; MOST_HOLDERS],
-    made: usize,
-    holders: [Unpaired; MOST_HOLDERS],
-    count: usize,
+    pairs: ArrayVec<Pair, MOST_HOLDERS>,
+    holders: ArrayVec<Unpaired, MOST_HOLDERS>,
 }
 
 impl Model for Pairer {
-    ghost use Rattle.std.specs.Prelude.{◌≡◌, ◌+◌, ◌≤◌, length, take};
+    ghost use Rattle.std.specs.Prelude.{◌+◌, ◌≤◌};
     ghost use Rattle.book.specs.Limits.{most_holders};
+    ghost use Rattle.arrayvec.specs.ArrayVec.{array_vec_len};
     ghost use Rattle.pairing.specs.Pairing.{Made};
     ghost use Rattle.pairing.proofs.PairRelations.{open_count};
 
     ghost Value = { Made };
 
-    ghost view = { λ s. (take s.made s.pairs, take s.count s.holders) };
+    ghost view = { λ s. (s.pairs.items, s.holders.items) };
 
     // each pair closes a holder, so that there is room for all pairs
-    ghost invariant = { λ s. (s.count ≤ most_holders) × (s.made + open_count (take s.count s.holders) ≤ most_holders)
-        × (length s.holders ≡ most_holders) × (length s.pairs ≡ most_holders) };
+    ghost invariant = { λ s. array_vec_len s.pairs + open_count s.holders.items ≤ most_holders };
 }
 
 impl Pairer {
@@ -102,10 +81,8 @@ impl Pairer {
         ensures { result ≡ ([], map unpaired holders.now) }
     {
         Pairer {
-            pairs: [NO_PAIR; MOST_HOLDERS],
-            made: 0,
+            pairs: ArrayVec::new(),
             holders: unpaired_all(holders),
-            count: holders.len(),
         }
     }
 
@@ -113,14 +90,15 @@ impl Pairer {
     pub(crate) fn pairs(&self) -> &[Pair]
         ensures { result.now ≡ self.now.0 }
     {
-        &self.pairs[..self.made]
+        self.pairs.as_slice()
     }
 
     // The holders with what each still has to pair.
     fn holders(&self) -> &[Unpaired]
-        ensures { result.now ≡ self.now.1 }
+        ensures as_they_stand { result.now ≡ self.now.1 }
+        ensures few { length result.now ≤ most_holders }
     {
-        &self.holders[..self.count]
+        self.holders.as_slice()
     }
 
     // The place of the holder that stands first for the next pair on one side.
@@ -128,10 +106,7 @@ impl Pairer {
         ensures within { IfSome result (λ b. b < length self.now.1) }
         ensures value { result ≡ place_of (first holder_leq (passes group buys choice self.now.1) self.now.1) }
     {
-        let mut table = self.holders;
-        let standing = &mut table[..self.count];
-        mask(standing, self.holders(), group, buys, choice);
-        first_open(standing)
+        first_open(mask_all(self.holders(), group, buys, choice).as_slice())
     }
 
     // The next pair of a group.
@@ -156,9 +131,8 @@ impl Pairer {
         requires closes_one { open_count (paired p self.old.1) + 1 ≤ open_count self.old.1 }
         ensures { self.new ≡ (self.old.0 ++ p ∷ [], paired p self.old.1) }
     {
-        lower_both(&mut self.holders[..self.count], p);
-        self.pairs[self.made] = p;
-        self.made += 1;
+        lower_both(self.holders.as_mut_slice(), p);
+        self.pairs.push(p);
     }
 
     // Makes one pair after the other, until there is none.

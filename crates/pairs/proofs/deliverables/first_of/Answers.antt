@@ -25,10 +25,11 @@ pub returns : goal.returns
 returns c =
     let ds = deliverables c.args.price 0 c.args.assets.now in
     let r = c.first_open.result in
+    let listed = c.as_slice.ensures.value ∙ c.list_all.ensures in
     let all : Deliverable → Bool = λ _. true in
     let F : List Deliverable → Type 0 = λ l. FirstOpen deliverable_leq all l r in
-    let f : F ds = subst F c.list_all.ensures c.first_open.ensures.first_by_the_order in
-    let is : r ≡ place_of (first deliverable_leq all ds) = c.first_open.ensures.as_defined ∙ ap (λ (l : List Deliverable). place_of (first deliverable_leq all l)) c.list_all.ensures in
+    let f : F ds = subst F listed c.first_open.ensures.first_by_the_order in
+    let is : r ≡ place_of (first deliverable_leq all ds) = c.first_open.ensures.as_defined ∙ ap (λ (l : List Deliverable). place_of (first deliverable_leq all l)) listed in
     let N : ℕ → Type 0 = λ n. IfSome r (λ b. b < n) in
     let E : ℕ → Type 0 = λ n. IfNone r (n ≡ 0) in
     let V : Option ℕ → Type 0 = λ o. IfSome o (λ a. a ≡ place_or_0 (first deliverable_leq all ds)) in
