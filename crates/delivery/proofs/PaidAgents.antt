@@ -30,9 +30,6 @@ pub record Paying (side : Side) (f : ℕ → List Posting) (last k : ℕ) (m₀ 
 next_count : (last k : ℕ) → k < last → range_with_len k (last - k) ≡ k ∷ range_with_len (k + 1) (last - (k + 1))
 next_count last k h = let e : last - k ≡ suc (last - (k + 1)) = omega arith in ap (range_with_len k) e
 
-no_count : (last k : ℕ) → last ≤ k → range_with_len k (last - k) ≡ []
-no_count last k h = let e : last - k ≡ 0 = omega arith in ap (range_with_len k) e
-
 pub paying_here : (side : Side) (f : ℕ → List Posting) (last k : ℕ) (m₀ m : Meaning) (all ps : List Posting) → k < last → ps ≡ f k → Paying side f last k m₀ m all → NoneRefused side m ps
 paying_here side f last k m₀ m all ps h e go =
     let rest : List Posting = for_each f (range_with_len (k + 1) (last - (k + 1))) in
@@ -50,9 +47,6 @@ paying_more side f last k m₀ m m' all ps h e made go =
       none_refused = subst (λ (z : Meaning). NoneRefused side z rest) (sym p) (none_append side m (f k) rest n).1;
       posted = ap (λ z. all_posted side z rest) p ∙ (sym (posted_append side m (f k) rest) ∙ q);
     }
-
-pub paying_all : (side : Side) (f : ℕ → List Posting) (last k : ℕ) (m₀ m : Meaning) (all : List Posting) → last ≤ k → Paying side f last k m₀ m all → m ≡ all_posted side m₀ all
-paying_all side f last k m₀ m all h go = subst (λ (z : List ℕ). all_posted side m (for_each f z) ≡ all_posted side m₀ all) (no_count last k h) go.posted
 
 abbrev pub cash_to : List ℕ → ℕ → List Posting
 cash_to amounts agent = pays Cash agent cash_asset (get_or amounts agent 0)
@@ -98,12 +92,6 @@ walk_turn amounts s t u xs r x start so_far some next =
     let turn = YieldsList-turn (walk amounts s start) xs t so_far r u x some next in
     let long = numbered_length amounts in
     (omega (arith, long, turn.0), cash_at amounts (length xs) (x.0, x.1.now) turn.0 turn.1)
-
-pub walk_end : (amounts : List ℕ) (s t u : Walk) (xs : List (ℕ × Bor ℕ)) (r : Option (ℕ × Bor ℕ)) → Starts amounts s → Yields Step s xs t → r ≡ None → Step t r u → length amounts ≤ length xs + 1
-walk_end amounts s t u xs r start so_far none next =
-    let end = YieldsList-end (walk amounts s start) xs t so_far r u none next in
-    let long = numbered_length amounts in
-    omega (arith, long, end.1)
 
 -- Amounts that are another function's give that function's postings.
 each_same : (f g : ℕ → List Posting) (k n : ℕ) → ((j : ℕ) → k ≤ j → j < k + n → f j ≡ g j) → for_each f (range_with_len k n) ≡ for_each g (range_with_len k n)
