@@ -20,6 +20,8 @@ pub enum MakeFault {
     TooMuch,
 }
 
+// The numbers stand in a match, and are no discriminants: two refusals told alike would then not compile, and the edits
+// that tell one refusal as another have to be refused by a proof.
 impl RegisterFault {
     pub fn number(&self) -> u8
         ensures told_by_its_number { result ≡ number self.now }

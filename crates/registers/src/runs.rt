@@ -91,10 +91,20 @@ fn deliver_from<S: Make>(
 ) -> io::Result<()> {
     let mut cells = OPENING;
     lay_out(rt, make, first)?;
-    deliver_against(rt, first, "cash in a table", &mut TableRegister::over(&mut cells))?;
+    deliver_against(
+        rt,
+        first,
+        "cash in a table",
+        &mut TableRegister::over(&mut cells),
+    )?;
     let mut cells = OPENING;
     lay_out(rt, make, second)?;
-    deliver_against(rt, second, "cash in a day book", &mut DayBook::over(&mut cells))
+    deliver_against(
+        rt,
+        second,
+        "cash in a day book",
+        &mut DayBook::over(&mut cells),
+    )
 }
 
 fn deliver_against<S: Make, C: Make>(
