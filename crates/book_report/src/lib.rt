@@ -67,6 +67,7 @@ fn book_of_input(rt: &HostRuntime, book: &mut Book) -> anyhow::Result<Option<usi
 
 // Becomes the book of standard input, and answers how many bytes it has. Where it is refused, prints why, and answers
 // none.
+// A thin call, so that a wrong one is refused here, by this contract.
 pub fn read_input(rt: &HostRuntime, book: &mut Book) -> anyhow::Result<Option<usize>>
     ensures bytes_of_its_text { IfOk result (λ n. AcceptsBytes n (contents book.new)) }
 {

@@ -84,6 +84,7 @@ fn return_by_rules<C: Transfers>(state: &mut State, cash: &mut C) -> Result<Answ
 }
 
 // Ends whole delivery: each draw held goes back to its agent, and partial delivery follows.
+// A thin call, so that a wrong one is refused here, by this contract.
 pub fn return_draws<C: Transfers>(state: &mut State, cash: &mut C) -> Result<Answer, Cause>
     ensures goes_on_by_the_rules { (lines : List Line) (securities : Meaning) → state.old.session ≡ session_of.WholeDelivery → Follows (seen state.old lines securities (meaning C.Balances cash.old)) end_call result (seen state.new lines securities (meaning C.Balances cash.new)) }
     ensures memory_is_kept { C.Balances.lender cash.new ≡ C.Balances.lender cash.old }

@@ -88,6 +88,7 @@ fn take_by_rules<S: Transfers>(
 
 // Takes a seller's units of an asset: in whole delivery those of all outstanding contracts, in partial delivery as many of
 // them as its balance covers. The contracts count as in on the seller's lines of that asset, in line order.
+// A thin call, so that a wrong one is refused here, by this contract.
 pub fn take_contracts<S: Transfers>(
     state: &State,
     lines: &mut [Line],

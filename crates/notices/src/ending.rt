@@ -30,6 +30,7 @@ fn end_by_rules(state: &mut State) -> Result<Answer, Cause>
 }
 
 // Ends the clearing members' notices: each seller's unnotified contracts go to the first deliverable, and pairing follows.
+// A thin call, so that a wrong one is refused here, by this contract.
 pub fn end_notices(state: &mut State) -> Result<Answer, Cause>
     ensures goes_on_by_the_rules { (lines : List Line) (securities cash : Meaning) → state.old.session ≡ session_of.ClearingNotices → Follows (seen state.old lines securities cash) end_call result (seen state.new lines securities cash) }
 {

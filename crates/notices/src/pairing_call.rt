@@ -35,6 +35,7 @@ fn pair_by_rules(state: &mut State, lines: &mut [Line]) -> Result<Answer, Cause>
 
 // Pairs the book: its lines go into the first places of the table, each agent's net follows from them, and whole delivery
 // follows.
+// A thin call, so that a wrong one is refused here, by this contract.
 pub fn pair_book(state: &mut State, lines: &mut [Line]) -> Result<Answer, Cause>
     ensures goes_on_by_the_rules { (securities cash : Meaning) → Follows (seen state.old lines.old securities cash) pair_call result (seen state.new lines.new securities cash) }
 {

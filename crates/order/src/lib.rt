@@ -30,6 +30,7 @@ pub trait Ranked {
 
 // The place of the first open record by the order, the earliest in the list among alike ones, or that none is open.
 // The words fix the answer, and it is the one of the definition that other rules cite.
+// A thin call, so that a wrong one is refused here, by this contract.
 pub fn first_open<T: Ranked>(records: &[T]) -> Option<usize>
     ensures first_by_the_order { FirstOpen T.Ranked.leq T.Ranked.is_open records.now result }
     ensures no_other_answer { (o : Option ℕ) → FirstOpen T.Ranked.leq T.Ranked.is_open records.now o → o ≡ result }

@@ -50,6 +50,7 @@ fn pair_by_law(book: &Book, lots: &[SellerLots], lines: &mut [Line]) -> Result<u
 
 // Pairs the book with the sellers' lots and writes its lines into the first places of the table; a table with fewer than
 // four places a holder is refused. It asks for no memory.
+// A thin call, so that a wrong one is refused here, by this contract.
 pub fn pair(book: &Book, lots: &[SellerLots], lines: &mut [Line]) -> Result<usize, PairingFault>
     ensures answers_the_count { result ≡ pair_answer (contents book.now) (lots_in (contents book.now) lots.now) lines.old }
     ensures lines_as_defined { lines.new ≡ pair_leaves (contents book.now) (lots_in (contents book.now) lots.now) lines.old }
@@ -83,6 +84,7 @@ fn hand_to_first(book: &Book, records: &mut [SellerLots]) -> Result<(), PairingF
 
 // Gives each seller's unnotified contracts to the first deliverable, as the end of the notices does; refused where there
 // are fewer records than holders.
+// A thin call, so that a wrong one is refused here, by this contract.
 pub fn hand_out(book: &Book, records: &mut [SellerLots]) -> Result<(), PairingFault>
     ensures answers_if_handed_out { result ≡ hand_answer (contents book.now) records.old }
     ensures records_as_defined { records.new ≡ hand_leaves (contents book.now) records.old }

@@ -53,6 +53,7 @@ fn carry_out_each<A: Transfers, B: Transfers>(
 
 // Carries each instruction out in both registers, and tells whether they answered alike throughout.
 // Registers that start with one meaning do, whatever their makes, and end with one meaning.
+// A thin call, so that a wrong one is refused here, by this contract.
 pub fn answer_alike<A: Transfers, B: Transfers>(
     first: &mut A,
     second: &mut B,

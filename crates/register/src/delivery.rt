@@ -92,6 +92,7 @@ fn deliver<S: Transfers, C: Transfers>(
 }
 
 // Moves the units to the buyer and the money to the payee, or neither: both are checked before either is moved.
+// A thin call, so that a wrong one is refused here, by this contract.
 pub fn deliver_against_payment<S: Transfers, C: Transfers>(
     securities: &mut S,
     cash: &mut C,

@@ -55,6 +55,7 @@ fn close_by_rules<S: Transfers>(
 }
 
 // Closes the expiry: contracts in return to their sellers, and the differences of all unsettled contracts become claims.
+// A thin call, so that a wrong one is refused here, by this contract.
 pub fn close<S: Transfers>(
     state: &mut State,
     lines: &mut [Line],

@@ -91,6 +91,7 @@ fn deliver_by_rules<S: Transfers, C: Transfers>(
 
 // Settles the whole expiry, once every contract is taken and every debit drawn: each line's units go to its buyer, each
 // net above 0 to its agent, and the expiry is closed.
+// A thin call, so that a wrong one is refused here, by this contract.
 pub fn deliver_whole<S: Transfers, C: Transfers>(
     state: &mut State,
     lines: &mut [Line],

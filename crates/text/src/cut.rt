@@ -22,6 +22,7 @@ fn cut(rest: &[u8], separator: u8) -> (&[u8], &[u8])
 
 // The part of `rest` before the first `separator`, and the rest from that separator on.
 // An empty rest means that there was no separator.
+// A thin call, so that a wrong one is refused here, by this contract.
 pub fn step(rest: &[u8], separator: u8) -> (&[u8], &[u8])
     ensures part_ends_at_separator { result.0.now ≡ take (stop separator rest.now) rest.now }
     ensures rest_begins_there { result.1.now ≡ drop (stop separator rest.now) rest.now }

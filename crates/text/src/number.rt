@@ -43,6 +43,7 @@ fn signed(field: &[u8]) -> Option<i64>
 }
 
 // The number that a field writes, held at the limit on both sides of 0; none where it has another form.
+// A thin call, so that a wrong one is refused here, by this contract.
 pub fn number(field: &[u8]) -> Option<i64>
     ensures held_value_of_field { result ≡ option_map held (number_of field.now) }
 {

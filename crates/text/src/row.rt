@@ -120,6 +120,7 @@ fn numbers_of_row(
 
 // The numbers of a line of this kind, one for each bound: the kind is tried first, then the count of fields,
 // then each number's form, then each number's range.
+// A thin call, so that a wrong one is refused here, by this contract.
 pub fn read_row(
     heap: Global,
     line: &[u8],

@@ -88,6 +88,7 @@ impl Book {
     }
 
     // The row, from 1, of the holder with this member and number, if there is one.
+    // A thin call, so that a wrong one is refused here, by this contract.
     pub fn row_of(&self, member: u64, number: u64) -> Option<usize>
         ensures value { result ≡ row_of (contents self.now) member number }
         ensures the_one_row_or_none { TheOneRow (contents self.now) member number result }

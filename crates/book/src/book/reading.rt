@@ -53,6 +53,7 @@ impl Book {
     }
 
     // Becomes the book of this file; where the file is refused, or there is no memory, the empty book.
+    // A thin call, so that a wrong one is refused here, by this contract.
     pub fn read(&mut self, heap: Global, file: &[u8]) -> Result<(), ReadFault>
         ensures by_the_definition { Reads result (reading file.now) (contents self.new) }
         ensures accepts_exactly_the_texts_of_books { AcceptsExactlyTexts result file.now (contents self.new) }

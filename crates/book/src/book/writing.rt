@@ -48,6 +48,7 @@ impl Book {
 
     // Writes the book's file at the start of `out`, and answers its length. Later bytes stay as they were; where
     // writing is refused, all do.
+    // A thin call, so that a wrong one is refused here, by this contract.
     pub fn write(&self, out: &mut [u8]) -> Result<usize, WriteFault>
         ensures length_or_refusal { result ≡ write_answer (contents self.now) out.old }
         ensures text_then_later_bytes { out.new ≡ write_leaves (contents self.now) out.old }

@@ -71,6 +71,7 @@ impl DayBook<'_> {
     }
 
     // Posts what waits, so that the memory alone tells the balances.
+    // A thin call, so that a wrong one is refused here, by this contract.
     pub fn post(&mut self)
         ensures meaning_stays { means self.new ≡ means self.old }
         ensures nothing_waits { waits self.new.entries ≡ [] }

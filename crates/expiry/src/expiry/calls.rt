@@ -120,6 +120,7 @@ impl Expiry {
 
     // Carries out one call over the expiry's lines and registers, or refuses it. A table or register that is too small is
     // refused first.
+    // A thin call, so that a wrong one is refused here, by this contract.
     pub fn apply<S: Transfers, C: Transfers>(
         &mut self,
         lines: &mut [Line],

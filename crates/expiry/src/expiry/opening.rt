@@ -84,6 +84,7 @@ impl Expiry {
 
     // Opens an expiry of the book in session 1, with the caller's table of lines and two registers of any make, of which
     // it only reads; or refuses, the empty book first, then too little room, then a house that holds something.
+    // A thin call, so that a wrong one is refused here, by this contract.
     pub fn open<S: Balances, C: Balances>(
         book: Book,
         lines: &[Line],

@@ -60,6 +60,7 @@ impl Expiry {
     }
 
     // Carries out all calls in their order, refused ones included, and enters the answer of each beside it.
+    // A thin call, so that a wrong one is refused here, by this contract.
     pub fn run<S: Transfers, C: Transfers>(
         &mut self,
         lines: &mut [Line],
@@ -93,6 +94,7 @@ impl Expiry {
 
     // Plays a whole day: opens an expiry of the book over the lines and the registers, carries out all calls, enters their
     // answers, and hands back the expiry, which tells its session, nets and claims.
+    // A thin call, so that a wrong one is refused here, by this contract.
     pub fn play<S: Transfers, C: Transfers>(
         book: Book,
         lines: &mut [Line],

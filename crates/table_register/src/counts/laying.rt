@@ -40,6 +40,7 @@ impl Counts {
     }
 
     // The counts with which memory is laid out as a table. That is done once, of counts with no account.
+    // A thin call, so that a wrong one is refused here, by this contract.
     pub fn laid_out(
         &self,
         cells: &[u64],

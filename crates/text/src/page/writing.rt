@@ -46,6 +46,7 @@ impl Page {
     }
 
     // Adds a line of this kind and these numbers; what passes the end of the page is left out.
+    // A thin call, so that a wrong one is refused here, by this contract.
     pub fn push_row(&mut self, kind: &[u8], values: &[i64])
         ensures line_is_appended { written self.new ≡ take most_bytes (written self.old ++ line_text kind.now values.now) }
     {
