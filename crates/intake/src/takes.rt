@@ -22,6 +22,7 @@ use state::state::State;
 use state::table::made;
 
 // The row of a holder; 0 where there is none.
+// No Option: the rules give a name that the book has not row 0, of which nothing is due.
 fn row_or_0(book: &Book, member: u64, number: u64) -> usize
     ensures { result ≡ row_named (contents book.now) member number }
 {

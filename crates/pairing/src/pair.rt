@@ -8,6 +8,7 @@ pub struct Unpaired {
     pub number: u32,
     pub clearing: u16,
     pub agent: u8,
+    // A flag, as the rule's definition has it: its two sides are `buys` and `not buys` of the same words.
     pub buys: bool,
     pub volume: u32,
 }

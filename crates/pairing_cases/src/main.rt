@@ -21,6 +21,7 @@ fn cut(s: &[u8], separator: u8) -> (&[u8], &[u8]) {
 }
 
 // A number of the table as a place or a count; 0 where it is none.
+// No Option: what is missing in a case counts as 0, and of row 0 there is no record.
 fn count(text: &[u8]) -> usize {
     number(text)
         .and_then(|n| usize::try_from(n).ok())

@@ -97,6 +97,7 @@ impl Book {
     }
 
     // The invoice price of an asset in centavos a unit; 0 where the book has no such asset.
+    // No Option: by its definition the value of what is no asset is 0, and this is a factor of it.
     fn invoice_price(&self, asset: usize) -> u64
         ensures value { result ≡ invoice (contents self.now) asset }
     {

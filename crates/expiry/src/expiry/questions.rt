@@ -14,6 +14,7 @@ use pairs::lots::SellerLots;
 use rules::session::Session;
 
 // An amount by its agent; 0 where there is none.
+// No Option: the questions answer 0 there, as the tally does.
 fn amount_of(amounts: &[i64], agent: usize) -> i64
     ensures { result ≡ slice_index_or amounts.now agent (pos 0) }
 {
@@ -31,6 +32,7 @@ fn record_at(records: &[SellerLots], row: usize) -> SellerLots
 }
 
 // The contracts of the holder in a row; 0 where there is nobody.
+// No Option: nobody has nothing left to notify.
 fn volume_at(book: &Book, row: usize) -> u32
     ensures { result ≡ volume_of (holder_of (contents book.now) row) }
 {
