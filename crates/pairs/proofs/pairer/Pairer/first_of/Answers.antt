@@ -8,10 +8,10 @@ use Rattle.pairs.proofs.pairer.Pairer.first_of.Goals as goal
 
 pub returns-clause-value : goal.returns-clause-value
 returns-clause-value c =
-    let hs = c.holders-holders.result.now in
+    let hs = c.holders.result.now in
     let r = c.first_open.result in
     let P : Unpaired → Bool = passes c.args.group c.args.buys c.args.choice hs in
     let F : List Unpaired → Type 0 = λ l. FirstOpen holder_leq holder_open l r in
     let f : F (map (λ h. masked (P h) h) hs) = subst F c.mask.ensures c.first_open.ensures.first_by_the_order in
     let R : List Unpaired → Type 0 = λ l. r ≡ place_of (first holder_leq (passes c.args.group c.args.buys c.args.choice l) l) in
-    subst R c.holders-holders.ensures.as_they_stand (masked_first P (passes_open c.args.group c.args.buys c.args.choice hs) hs r f)
+    subst R c.holders.ensures (masked_first P (passes_open c.args.group c.args.buys c.args.choice hs) hs r f)
