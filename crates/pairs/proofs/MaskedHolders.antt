@@ -1,6 +1,6 @@
 -- The first holder that stands for the next pair is the first open one of the masked holders.
-use Rattle.std.proofs.Common.{◌≡◌, ℕ, ◌<◌, min, Bool, true, false, not, eqb, List, map, length, get_or, IfSome, Some, None, Option, sym, refl, ap, ◌∙◌, arith}
-use Rattle.std.proofs.lemmas.List.{get_or-map, length-map}
+use Rattle.std.proofs.Common.{◌≡◌, ℕ, ◌+◌, ◌<◌, min, Bool, true, false, not, eqb, List, [], ◌∷◌, ◌++◌, map, length, get_or, take, drop, set, IfSome, Some, None, Option, sym, refl, ap, ◌∙◌, arith}
+use Rattle.std.proofs.lemmas.List.{get_or-map, length-map, drop_more, take_more_set, map_more, drop-set-lt}
 use Rattle.std.proofs.lemmas.Bool.{true≢false, and_parts}
 use Rattle.order.specs.First.{FirstOpen, first, place_of}
 use Rattle.pairing.specs.declared.pair.Unpaired.{Unpaired}
@@ -44,6 +44,22 @@ module _ (P : Unpaired → Bool) (sound : (h : Unpaired) → P h ≡ true → ho
       (λ k h p. sym (ap (λ x. holder_leq x (at hs k)) eb) ∙ sym (ap (holder_leq (get_or (map (λ x. masked (P x) x) hs) b no_holder)) (same_at k h p)) ∙ f.least k no_holder (rw length-map h) (open_at k h p))
       (λ k h p. let kh : k < length hs = omega (arith, in_b, h) in
       sym (ap (λ x. holder_leq x (at hs b)) (same_at k kh p)) ∙ sym (ap (holder_leq (get_or (map (λ x. masked (P x) x) hs) k no_holder)) eb) ∙ f.earliest k no_holder h (open_at k kh p))))
+
+-- One holder more is masked.
+pub mask_more : (P : Unpaired → Bool) (hs ms : List Unpaired) (i : ℕ) (y : Unpaired) → length ms ≡ length hs → i < length ms
+    → y ≡ masked (P (get_or ms i no_holder)) (get_or ms i no_holder)
+    → take i ms ≡ map (λ h. masked (P h) h) (take i hs) → drop i ms ≡ drop i hs
+    → (take (i + 1) (set ms i y) ≡ map (λ h. masked (P h) h) (take (i + 1) hs)) × (drop (i + 1) (set ms i y) ≡ drop (i + 1) hs)
+mask_more P hs ms i y long h is front back =
+    let f : Unpaired → Unpaired = λ x. masked (P x) x in
+    let both : get_or ms i no_holder ∷ drop (i + 1) ms ≡ get_or hs i no_holder ∷ drop (i + 1) hs
+    = sym (drop_more ms i no_holder h) ∙ back ∙ drop_more hs i no_holder (omega (arith, h, long)) in
+    let here : get_or ms i no_holder ≡ get_or hs i no_holder = cc in
+    let later : drop (i + 1) ms ≡ drop (i + 1) hs = cc in (
+      take_more_set ms i y h ∙ ap (λ (l : List Unpaired). l ++ y ∷ []) front ∙ ap (λ (x : Unpaired). map f (take i hs) ++ x ∷ []) (is ∙ ap f here)
+          ∙ sym (map_more f hs i no_holder (omega (arith, h, long))),
+      drop-set-lt (i + 1) ms i y (omega arith) ∙ later,
+    )
 
 pub first_open_found : {X : Type 0} (leq : X → X → Bool) (is_open : X → Bool) (xs : List X) (r : Option ℕ) → FirstOpen leq is_open xs r → IfSome r (λ b. b < length xs)
 first_open_found leq is_open xs None f = tt

@@ -1,5 +1,5 @@
 // Pairing under way: the pairs of all groups, in the order made.
-ghost use Rattle.std.specs.Prelude.{◌≡◌, ◌+◌, ◌<◌, ◌≤◌, [], ◌∷◌, ◌++◌, map, length, IfSome};
+ghost use Rattle.std.specs.Prelude.{◌≡◌, ◌+◌, ◌<◌, ◌≤◌, [], ◌∷◌, ◌++◌, map, length, take, IfSome};
 ghost use Rattle.book.specs.Limits.{most_holders, most_member};
 ghost use Rattle.order.specs.First.{first, place_of};
 ghost use Rattle.pairing.specs.Orders.{holder_leq};
@@ -7,7 +7,7 @@ ghost use Rattle.pairing.specs.Pairing.{paired, unpaired, in_group, in_groups, n
 ghost use Rattle.pairing.proofs.PairRelations.{open_count};
 ghost use Rattle.pairs.specs.Search.{passes, next_pair, Takes, exhaust};
 
-use crate::search::{Choice, has_group, mask_all};
+use crate::search::{Choice, has_group, mask};
 use arrayvec::ArrayVec;
 use book::limits::{MOST_AGENT, MOST_HOLDERS, MOST_MEMBER};
 use book::records::Holder;
@@ -39,16 +39,18 @@ fn unpaired_one(h: Holder) -> Unpaired
     }
 }
 
-// All holders with all of their contracts unpaired.
-fn unpaired_all(holders: &[Holder]) -> ArrayVec<Unpaired, MOST_HOLDERS>
+// All holders with all of their contracts unpaired, in the first places of a table.
+fn unpaired_all(holders: &[Holder]) -> [Unpaired; MOST_HOLDERS]
     requires { length holders.now ≤ most_holders }
-    ensures { result.items ≡ map unpaired holders.now }
+    ensures in_the_first_places { take (length holders.now) result ≡ map unpaired holders.now }
+    ensures whole_table { length result ≡ most_holders }
 {
-    let mut all = ArrayVec::new();
-    for h in holders {
-        all.push(unpaired_one(*h));
+    let mut table = [Unpaired::default(); MOST_HOLDERS];
+    // by index: of what is written through a zip with `iter_mut` a proof knows nothing
+    for (i, h) in holders.iter().enumerate() {
+        table[i] = unpaired_one(*h);
     }
-    all
+    table
 }
 
 // A pairing under way: the pairs made so far, and the holders with what each still has to pair. Its tables have fixed
@@ -56,11 +58,14 @@ fn unpaired_all(holders: &[Holder]) -> ArrayVec<Unpaired, MOST_HOLDERS>
 #[derive(Drop)]
 pub(crate) struct Pairer {
     pairs: ArrayVec<Pair, MOST_HOLDERS>,
-    holders: ArrayVec<Unpaired, MOST_HOLDERS>,
+    // no `ArrayVec`: each search copies them, and a copy of one is a `Result`; with a new one pushed at each search the
+    // program `lines` took 50 to 65 percent more instructions
+    holders: [Unpaired; MOST_HOLDERS],
+    count: usize,
 }
 
 impl Model for Pairer {
-    ghost use Rattle.std.specs.Prelude.{◌+◌, ◌≤◌};
+    ghost use Rattle.std.specs.Prelude.{◌≡◌, ◌+◌, ◌≤◌, length, take};
     ghost use Rattle.book.specs.Limits.{most_holders};
     ghost use Rattle.arrayvec.specs.ArrayVec.{array_vec_len};
     ghost use Rattle.pairing.specs.Pairing.{Made};
@@ -68,10 +73,11 @@ impl Model for Pairer {
 
     ghost Value = { Made };
 
-    ghost view = { λ s. (s.pairs.items, s.holders.items) };
+    ghost view = { λ s. (s.pairs.items, take s.count s.holders) };
 
     // each pair closes a holder, so that there is room for all pairs
-    ghost invariant = { λ s. array_vec_len s.pairs + open_count s.holders.items ≤ most_holders };
+    ghost invariant = { λ s. (s.count ≤ most_holders) × (array_vec_len s.pairs + open_count (take s.count s.holders) ≤ most_holders)
+        × (length s.holders ≡ most_holders) };
 }
 
 impl Pairer {
@@ -83,6 +89,7 @@ impl Pairer {
         Pairer {
             pairs: ArrayVec::new(),
             holders: unpaired_all(holders),
+            count: holders.len(),
         }
     }
 
@@ -95,10 +102,9 @@ impl Pairer {
 
     // The holders with what each still has to pair.
     fn holders(&self) -> &[Unpaired]
-        ensures as_they_stand { result.now ≡ self.now.1 }
-        ensures few { length result.now ≤ most_holders }
+        ensures { result.now ≡ self.now.1 }
     {
-        self.holders.as_slice()
+        &self.holders[..self.count]
     }
 
     // The place of the holder that stands first for the next pair on one side.
@@ -106,7 +112,10 @@ impl Pairer {
         ensures within { IfSome result (λ b. b < length self.now.1) }
         ensures value { result ≡ place_of (first holder_leq (passes group buys choice self.now.1) self.now.1) }
     {
-        first_open(mask_all(self.holders(), group, buys, choice).as_slice())
+        let mut table = self.holders;
+        let standing = &mut table[..self.count];
+        mask(standing, self.holders(), group, buys, choice);
+        first_open(standing)
     }
 
     // The next pair of a group.
@@ -131,7 +140,7 @@ impl Pairer {
         requires closes_one { open_count (paired p self.old.1) + 1 ≤ open_count self.old.1 }
         ensures { self.new ≡ (self.old.0 ++ p ∷ [], paired p self.old.1) }
     {
-        lower_both(self.holders.as_mut_slice(), p);
+        lower_both(&mut self.holders[..self.count], p);
         self.pairs.push(p);
     }
 

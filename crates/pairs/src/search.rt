@@ -1,12 +1,9 @@
 // The search for the holders that stand for the next pair of a group.
-ghost use Rattle.std.specs.Prelude.{◌≡◌, ◌==◌, ◌&&◌, ◌≤◌, map, length};
+ghost use Rattle.std.specs.Prelude.{◌≡◌, ◌==◌, ◌&&◌, map};
 ghost use Rattle.std.specs.List.{list_any};
-ghost use Rattle.book.specs.Limits.{most_holders};
 ghost use Rattle.pairing.specs.Pairing.{key, side_in};
 ghost use Rattle.pairs.specs.Search.{passes, masked};
 
-use arrayvec::ArrayVec;
-use book::limits::MOST_HOLDERS;
 use pairing::pair::Unpaired;
 use pairing::stage::{Group, Stage};
 
@@ -79,19 +76,18 @@ fn mask_one(h: Unpaired, stands: bool) -> Unpaired
     }
 }
 
-// The holders, those that do not stand for the next pair on one side with nothing to pair.
-pub(crate) fn mask_all(
+// Leaves those that do not stand for the next pair on one side with nothing to pair.
+pub(crate) fn mask(
+    standing: &mut [Unpaired],
     holders: &[Unpaired],
     group: Group,
     buys: bool,
     choice: Choice,
-) -> ArrayVec<Unpaired, MOST_HOLDERS>
-    requires { length holders.now ≤ most_holders }
-    ensures { result.items ≡ map (λ h. masked (passes group buys choice holders.now h) h) holders.now }
+)
+    requires { standing.old ≡ holders.now }
+    ensures { standing.new ≡ map (λ h. masked (passes group buys choice holders.now h) h) holders.now }
 {
-    let mut all = ArrayVec::new();
-    for h in holders {
-        all.push(mask_one(*h, stands_for(holders, h, group, buys, choice)));
+    for h in standing.iter_mut() {
+        *h = mask_one(*h, stands_for(holders, h, group, buys, choice));
     }
-    all
 }

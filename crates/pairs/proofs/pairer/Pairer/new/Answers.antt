@@ -8,4 +8,4 @@ pub invariant_of-result : goal.invariant_of-result
 invariant_of-result c =
     let few = open_le (map unpaired c.args.holders.now) in
     let same = rows_length c.args.holders.now in
-    omega (arith, ap length c.new.ensures, ap open_count c.unpaired_all.ensures, few, same, c.requires)
+    (omega arith, omega (arith, ap length c.new.ensures, ap open_count c.unpaired_all.ensures.in_the_first_places, few, same), c.unpaired_all.ensures.whole_table)

@@ -10,4 +10,4 @@ returns c =
     let hs = c.args.self.now.1 in
     let P : Bool → Unpaired → Bool = λ buys. passes c.args.group buys c.args.choice hs in
     pair_found c.args.group.stage (P true) (P false) hs c.in_ok-buyer.buyer c.in_ok-seller.seller c.min-contracts.result
-    c.in_ok-buyer.ensures.value c.in_ok-seller.ensures.value (c.min-contracts.ensures ∙ ap (λ (l : List Unpaired). min (at l c.in_ok-buyer.buyer).volume (at l c.in_ok-seller.seller).volume) c.holders-holders.ensures.as_they_stand)
+    c.in_ok-buyer.ensures.value c.in_ok-seller.ensures.value (c.min-contracts.ensures ∙ ap (λ (l : List Unpaired). min (at l c.in_ok-buyer.buyer).volume (at l c.in_ok-seller.seller).volume) c.holders-holders.ensures)

@@ -19,4 +19,4 @@ returns-else-has_group c =
     let hs = c.holders.result.now in
     let none : occurs c.args.group hs ≡ false = sym (any_is (λ h. nat_eq (key c.args.group.stage h) c.args.group.number) hs) ∙ sym c.has_group.ensures ∙ c.if-has_group.false in
     let N : List Unpaired → Type 0 = λ l. occurs c.args.group l ≡ false in
-    sym (ap (λ (x : Made). (m.0 ++ x.0, x.1)) (empty_group c.args.group m.1 (subst N c.holders.ensures.as_they_stand none)) ∙ and_then_none m)
+    sym (ap (λ (x : Made). (m.0 ++ x.0, x.1)) (empty_group c.args.group m.1 (subst N c.holders.ensures none)) ∙ and_then_none m)
