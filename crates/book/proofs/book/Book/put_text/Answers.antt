@@ -1,13 +1,8 @@
-use Rattle.std.proofs.Common.{◌<◌, length, sym, ◌∙◌, arith, true-eqb, false-eqb, rules}
+use Rattle.std.proofs.Common.{◌<◌, length, ◌∙◌, arith, false-eqb, rules}
 use Rattle.book.specs.Data.{contents}
 use Rattle.book.proofs.BookKept.{page_holds}
-use Rattle.book.proofs.WriteWays.{write_empty, write_put}
+use Rattle.book.proofs.WriteWays.{write_put}
 use Rattle.book.proofs.book.Book.put_text.Goals as goal
-
-pub returns-then-is_empty : goal.returns-then-is_empty
-returns-then-is_empty c =
-    let p = write_empty (contents c.args.self.now) c.args.out.now (sym c.args.self.now.holders.ok.0 ∙ true-eqb _ _ c.if-is_empty.ensures) in
-    record { length_or_refusal = p.0; text_then_later_bytes = p.1 }
 
 pub returns : goal.returns
 returns c =
