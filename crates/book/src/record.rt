@@ -72,7 +72,7 @@ const HOLDER_BOUNDS: [Bound; 5] = [
 ];
 
 // A record that has a line of its own in the file.
-pub trait Record: Sized {
+pub(crate) trait Record: Sized {
     // the word with which the line begins
     ghost kind: { List ℕ };
 
