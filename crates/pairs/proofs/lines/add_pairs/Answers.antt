@@ -1,17 +1,7 @@
-use Rattle.std.proofs.Common.{◌<◌, take, ◌∙◌, arith}
-use Rattle.std.proofs.ByRecursion.{All-get_or}
-use Rattle.pairing.specs.declared.pair.Pair.{Pair}
+use Rattle.std.proofs.Common.{take, ◌∙◌, arith}
 use Rattle.pairs.specs.Records.{lots_from}
 use Rattle.pairs.proofs.WrittenLines.{no_pair, pairs_more, stays_both}
 use Rattle.pairs.proofs.lines.add_pairs.Goals as goal
-
-pub add_pair-requires : goal.add_pair-requires
-add_pair-requires c =
-    let so_far = c.loop-p.invariant in
-    record {
-      near = All-get_or (λ (p : Pair). (p.buyer < 256) × (p.seller < 256)) c.args.pairs.now c.loop-p.p-index no_pair c.loop-p-test.true c.requires.near;
-      room = omega (arith, c.requires.room, c.args.lots.now.few_assets, so_far.same_length, so_far.few);
-    }
 
 pub loop-p-preserved : goal.loop-p-preserved
 loop-p-preserved c =

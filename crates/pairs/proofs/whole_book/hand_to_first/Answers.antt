@@ -1,18 +1,6 @@
-use Rattle.std.proofs.Common.{◌≡◌, [], length, refl, ap, arith}
-use Rattle.book.specs.Data.{contents}
-use Rattle.pairing.specs.Orders.{first_deliverable}
-use Rattle.pairs.proofs.BookBounds.{no_holders}
+use Rattle.std.proofs.Common.{length, ap, arith}
 use Rattle.pairs.proofs.Outcomes.{handed_out}
 use Rattle.pairs.proofs.whole_book.hand_to_first.Goals as goal
-
-pub returns-in_default : goal.returns-in_default
-returns-in_default c =
-    let book = c.args.book.now in
-    let b = contents book in
-    let hs = ap length c.holders-holders.ensures.value in
-    let none : [] ≡ b.holders = no_holders book (c.in_default.ensures.none_of_none) in
-    let w = handed_out book c.args.records.now c.args.records.now b.assets [] (first_deliverable b) (omega (arith, hs)) refl none refl refl in
-    record { answers_if_handed_out = w.answer; records_as_defined = w.leaves; adds_what_the_end_adds = w.adds }
 
 pub returns : goal.returns
 returns c =

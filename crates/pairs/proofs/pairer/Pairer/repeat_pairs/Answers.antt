@@ -2,7 +2,7 @@ use Rattle.std.proofs.Common.{sym, ap, ◌∙◌, arith}
 use Rattle.pairing.specs.Pairing.{Made, and_then}
 use Rattle.pairing.proofs.PairRelations.{open_count}
 use Rattle.pairs.specs.Search.{next_pair, exhaust}
-use Rattle.pairs.proofs.RuleContinued.{next_fair, fair_takes, next_falls, pair_more, pair_none}
+use Rattle.pairs.proofs.RuleContinued.{next_fair, fair_takes, next_falls, pair_more}
 use Rattle.pairs.proofs.pairer.Pairer.repeat_pairs.Goals as goal
 
 pub add-requires : goal.add-requires
@@ -25,8 +25,3 @@ loop-p-preserved c =
     ap (λ (m : Made). and_then m (exhaust next)) c.add.ensures
     ∙ pair_more next (next_falls c.args.choice c.args.group) c.loop-p.self c.in-Some.p (sym c.in-Some.ensures)
     ∙ c.loop-p.invariant
-
-pub returns : goal.returns
-returns c =
-    let next = next_pair c.args.choice c.args.group in
-    pair_none next (next_falls c.args.choice c.args.group) c.loop-p.self (sym c.in_default.ensures) ∙ c.loop-p.invariant
