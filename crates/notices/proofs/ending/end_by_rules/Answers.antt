@@ -8,8 +8,8 @@ use Rattle.rules.specs.Histories.{Stands}
 use Rattle.state.specs.declared.state.State.{State}
 use Rattle.state.specs.Seeing.{seen}
 use Rattle.state.specs.Calls.{end_call}
-use Rattle.notices.proofs.Ended.{never_few, end_accepted}
-use Rattle.notices.proofs.Mapped.{ok_was, err_was}
+use Rattle.notices.proofs.Ended.{end_accepted}
+use Rattle.notices.proofs.Mapped.{ok_was}
 use Rattle.notices.proofs.ending.end_by_rules.Goals as goal
 
 pub returns : goal.returns
@@ -22,14 +22,4 @@ returns c =
       goes_on_by_the_rules = λ lines s m clearing o h st now'.
           subst (λ (x : State). Stands o ((end_call, Ok Done) ∷ h) (seen x lines s m)) (sym c.on_to_pairing.ensures)
           (end_accepted o h c.args.state.now lines s m st long clearing now' c.hand_out.new.records f.records_as_defined adds);
-    }
-
--- There is a record for every holder.
-pub returns-in_err-map_err : goal.returns-in_err-map_err
-returns-in_err-map_err c =
-    let long : length c.args.state.now.lots ≡ 256 = search rules in
-    let few = err_was c.hand_out.result c.map_err.result c.in_err-map_err.field-0.0 c.map_err.ensures.variant c.in_err-map_err.was in
-    record {
-      goes_on_by_the_rules = λ lines s m clearing o h st now'.
-          absurd (never_few o h c.args.state.now lines s m st long c.hand_out.result few.0 c.hand_out.ensures.answers_if_handed_out few.1);
     }

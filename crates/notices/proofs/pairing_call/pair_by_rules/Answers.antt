@@ -4,8 +4,8 @@ use Rattle.rules.specs.Histories.{Stands}
 use Rattle.state.specs.declared.state.State.{State}
 use Rattle.state.specs.Seeing.{seen}
 use Rattle.state.specs.Calls.{pair_call}
-use Rattle.notices.proofs.PairedOff.{never_small, pair_accepted}
-use Rattle.notices.proofs.Mapped.{ok_was, err_was}
+use Rattle.notices.proofs.PairedOff.{pair_accepted}
+use Rattle.notices.proofs.Mapped.{ok_was}
 use Rattle.notices.proofs.pairing_call.pair_by_rules.Goals as goal
 
 pub returns : goal.returns
@@ -17,13 +17,4 @@ returns c =
           subst (λ (x : State). Stands o ((pair_call, Ok (Lines c.in_ok-n.n)) ∷ h) (seen x c.pair.new.lines s m)) (sym c.on_to_delivery.ensures)
           (pair_accepted o h c.args.state.now c.args.lines.now s m st now' c.in_ok-n.n c.pair.result c.pair.ensures.answers_the_count made
           c.pair.new.lines c.pair.ensures.lines_as_defined c.nets-each_net.result long c.nets-each_net.ensures.each_net);
-    }
-
--- There are places for all lines.
-pub returns-in_err-n : goal.returns-in_err-n
-returns-in_err-n c =
-    let small = err_was c.pair.result c.map_err.result c.in_err-n.field-0.0 c.map_err.ensures.variant c.in_err-n.was in
-    record {
-      goes_on_by_the_rules = λ s m o h st now'.
-          absurd (never_small o h c.args.state.now c.args.lines.now s m st now' c.pair.result small.0 c.pair.ensures.answers_the_count small.1);
     }

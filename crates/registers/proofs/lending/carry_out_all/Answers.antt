@@ -17,10 +17,3 @@ loop-instruction-preserved g c =
       c.carry_out.ensures.meaning_follows_the_rules ∙ ap (λ k. after_instruction k o) c.loop-instruction.invariant.0 ∙ sym (all_more m es i (Credit 0 0 0) c.loop-instruction-test.true),
       c.carry_out.ensures.memory_is_kept ∙ c.loop-instruction.invariant.1,
     )
-
-pub returns : goal.returns
-returns g c =
-    let es = c.args.instructions.now in
-    let m : Meaning = meaning g.R.Balances c.args.register.now in
-    let all : take c.loop-instruction.instruction-index es ≡ es = take_all _ es c.loop-instruction-test.false in
-    record { meaning = c.loop-instruction.invariant.0 ∙ ap (after_all m) all; lender = c.loop-instruction.invariant.1 }

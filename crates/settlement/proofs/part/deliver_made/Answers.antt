@@ -7,13 +7,8 @@ use Rattle.rules.specs.Histories.{Stands}
 use Rattle.state.specs.Seeing.{seen}
 use Rattle.state.specs.Following.{answered}
 use Rattle.state.specs.Calls.{line_call}
-use Rattle.settlement.proofs.LineSettled.{no_such_line, nothing_in, line_refused, line_accepted}
+use Rattle.settlement.proofs.LineSettled.{nothing_in, line_refused, line_accepted}
 use Rattle.settlement.proofs.part.deliver_made.Goals as goal
-
-pub returns-in_default-clause-goes_on_by_the_rules : goal.returns-in_default-clause-goes_on_by_the_rules
-returns-in_default-clause-goes_on_by_the_rules g c = λ rest many o h st now'.
-    no_such_line o h c.args.state.now c.args.lines.now rest (meaning g.S.Balances c.args.securities.now) (meaning g.C.Balances c.args.cash.now) st many c.args.line now'
-    c.in_default.ensures
 
 pub returns-then-contracts-eq0-clause-goes_on_by_the_rules : goal.returns-then-contracts-eq0-clause-goes_on_by_the_rules
 returns-then-contracts-eq0-clause-goes_on_by_the_rules g c = λ rest many o h st now'.

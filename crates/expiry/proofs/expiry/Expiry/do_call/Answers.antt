@@ -24,14 +24,8 @@ returns-in-WholeDelivery-Take-clause-goes_on_by_the_rules g c = λ o h st. searc
 pub returns-in-WholeDelivery-Draw-clause-goes_on_by_the_rules : goal.returns-in-WholeDelivery-Draw-clause-goes_on_by_the_rules
 returns-in-WholeDelivery-Draw-clause-goes_on_by_the_rules g c = λ o h st. search (rules, by_its_part, c.draw_debit.ensures.goes_on_by_the_rules (meaning g.S.Balances c.args.securities.now))
 
-pub returns-in-WholeDelivery-SettleWhole-clause-goes_on_by_the_rules : goal.returns-in-WholeDelivery-SettleWhole-clause-goes_on_by_the_rules
-returns-in-WholeDelivery-SettleWhole-clause-goes_on_by_the_rules g c = λ o h st. search (rules, by_its_part)
-
 pub returns-in-WholeDelivery-End-clause-goes_on_by_the_rules : goal.returns-in-WholeDelivery-End-clause-goes_on_by_the_rules
 returns-in-WholeDelivery-End-clause-goes_on_by_the_rules g c = λ o h st. search (rules, by_its_part, c.return_draws.ensures.goes_on_by_the_rules c.args.lines.now (meaning g.S.Balances c.args.securities.now) c.in-WholeDelivery-End.is-0)
-
-pub returns-in-PartialDelivery-SettleLine-clause-goes_on_by_the_rules : goal.returns-in-PartialDelivery-SettleLine-clause-goes_on_by_the_rules
-returns-in-PartialDelivery-SettleLine-clause-goes_on_by_the_rules g c = λ o h st. search (rules, by_its_part)
 
 pub returns-in-PartialDelivery-Close-clause-goes_on_by_the_rules : goal.returns-in-PartialDelivery-Close-clause-goes_on_by_the_rules
 returns-in-PartialDelivery-Close-clause-goes_on_by_the_rules g c = λ o h st. search (rules, by_its_part, c.close.ensures.goes_on_by_the_rules (meaning g.C.Balances c.args.cash.now))

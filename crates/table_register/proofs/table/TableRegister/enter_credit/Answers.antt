@@ -1,31 +1,8 @@
-use Rattle.std.proofs.Common.{◌+◌, ◌<◌, ◌≤◌, length, get_or, set, refl, ap, arith, rules}
-use Rattle.register.specs.Rules.{most}
+use Rattle.std.proofs.Common.{◌+◌, ◌<◌, length, get_or, set, refl, ap, arith, rules}
 use Rattle.table_register.specs.TableMeaning.{means}
 use Rattle.register.proofs.Meanings.{same_meaning, credit_told}
-use Rattle.table_register.proofs.Tables.{size_set, held_le, credit_cell, credit_issue, credit_covered, raised_covered, credit_bounded, issued_in}
+use Rattle.table_register.proofs.Tables.{size_set, held_le, credit_cell, credit_issue, credit_covered, issued_in}
 use Rattle.table_register.proofs.table.TableRegister.enter_credit.Goals as goal
-
-pub place-place-requires : goal.place-place-requires
-place-place-requires c =
-    let told = credit_told (means c.args.self.now) c.args.account c.args.asset c.args.amount c.requires.accepted in
-    record { known = (told.account_known, told.asset_known) }
-
-pub overflow_add-self : goal.overflow_add-self
-overflow_add-self c =
-    let x = c.args.self.now in
-    let told = credit_told (means x) c.args.account c.args.asset c.args.amount c.requires.accepted in
-    omega (arith, told.fits, issued_in x.counts.issues x.counts.assets c.args.asset told.asset_known)
-
-pub invariant_of-self : goal.invariant_of-self
-invariant_of-self c =
-    let x = c.args.self.now in
-    let told = credit_told (means x) c.args.account c.args.asset c.args.amount c.requires.accepted in
-    let at = c.place-place.ensures.place in
-    let hl : c.args.asset < length x.counts.issues = search rules in
-    let fits : get_or x.counts.issues c.args.asset 0 + c.args.amount ≤ most = omega (arith, told.fits, issued_in x.counts.issues x.counts.assets c.args.asset told.asset_known) in
-    let bounded = credit_bounded x.cells.now x.counts.accounts x.counts.assets c.args.account c.args.asset c.place-place.result x.size told.account_known told.asset_known at x.counts.issues c.args.amount hl fits x.counts.bounded in
-    let covered = raised_covered x.cells.now x.counts.accounts x.counts.assets c.args.account c.args.asset c.place-place.result x.size told.account_known told.asset_known at x.counts.issues c.args.amount hl x.covered in
-    ((x.counts.few_accounts, (x.counts.few_assets, (bounded, tt))), (x.size, (covered, tt)))
 
 pub overflow_add-self-2 : goal.overflow_add-self-2
 overflow_add-self-2 c =

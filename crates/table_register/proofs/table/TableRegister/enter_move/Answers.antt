@@ -4,22 +4,6 @@ use Rattle.register.proofs.Meanings.{same_meaning, move_told}
 use Rattle.table_register.proofs.Tables.{size_set, lower_covered, move_cell, move_covered, taken_le, issued_in, held_in}
 use Rattle.table_register.proofs.table.TableRegister.enter_move.Goals as goal
 
-pub place-from-requires : goal.place-from-requires
-place-from-requires c =
-    let told = move_told (means c.args.self.now) c.args.giver c.args.taker c.args.asset c.args.amount c.requires.accepted in
-    record { known = (told.giver_known, told.asset_known) }
-
-pub place-to-requires : goal.place-to-requires
-place-to-requires c =
-    let told = move_told (means c.args.self.now) c.args.giver c.args.taker c.args.asset c.args.amount c.requires.accepted in
-    record { known = (told.taker_known, told.asset_known) }
-
-pub overflow_sub-self : goal.overflow_sub-self
-overflow_sub-self c =
-    let x = c.args.self.now in
-    let told = move_told (means x) c.args.giver c.args.taker c.args.asset c.args.amount c.requires.accepted in
-    omega (arith, told.enough, held_in x.cells.now x.counts.accounts x.counts.assets c.args.giver c.args.asset c.place-from.result x.size told.giver_known told.asset_known c.place-from.ensures.place)
-
 pub invariant_of-self : goal.invariant_of-self
 invariant_of-self c =
     let x = c.args.self.now in
