@@ -8,6 +8,7 @@ use crate::awaits::Awaits;
 use crate::fault::{Cause, ReadFault};
 use crate::limits::{MOST_ASSETS, MOST_HOLDERS};
 use crate::lines::{Line, Lines};
+use crate::record::Record;
 use crate::records::{Asset, Holder, Terms};
 use crate::rows::{Rows, agrees, ascends};
 use std::alloc::Global;
@@ -28,10 +29,7 @@ impl Draft {
     {
         Draft {
             awaits: Awaits::Heading,
-            terms: Terms {
-                multiplier: 0,
-                price: 0,
-            },
+            terms: Terms::default(),
             assets: Vec::new(heap),
             holders: Vec::new(heap),
         }
@@ -89,21 +87,21 @@ impl Draft {
     fn asset_comes(&self, line: &Line<'_>) -> bool
         ensures value { result ≡ asset_next (draft_of self.now).book line.now.bytes.now }
     {
-        line.is_of(b"asset") && self.holders.is_empty() && self.assets.len() < MOST_ASSETS
+        line.is_of(Asset::kind()) && self.holders.is_empty() && self.assets.len() < MOST_ASSETS
     }
 
     // A holder may come after an asset.
     fn holder_comes(&self, line: &Line<'_>) -> bool
         ensures value { result ≡ holder_next (draft_of self.now).book line.now.bytes.now }
     {
-        line.is_of(b"holder") && !self.assets.is_empty()
+        line.is_of(Holder::kind()) && !self.assets.is_empty()
     }
 
     // One holder too many.
     fn is_overfull(&self, line: &Line<'_>) -> bool
         ensures value { result ≡ overfull_of (draft_of self.now).book line.now.bytes.now }
     {
-        line.is_of(b"holder") && MOST_HOLDERS <= self.holders.len()
+        line.is_of(Holder::kind()) && MOST_HOLDERS <= self.holders.len()
     }
 
     fn take_row(&mut self, heap: Global, line: &Line<'_>) -> Result<(), ReadFault>

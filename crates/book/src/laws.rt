@@ -1,4 +1,5 @@
 // What holds of every book and file, and some worked cases.
+// Each answers 0: a function is only what carries the theorems.
 ghost use Rattle.book.specs.Laws.{AcceptedFilesAreTexts, TextsReadBack, OneBookForEachText};
 ghost use Rattle.book.specs.Cases.{WorkedCases};
 

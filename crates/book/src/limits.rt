@@ -12,5 +12,9 @@ pub const MOST_MEMBER: u16 = 999;
 // The highest number of a payment agent.
 pub const MOST_AGENT: u8 = 64;
 
-// The most lines of a pairing: one for each asset and holder.
-pub const MOST_LINES: usize = MOST_ASSETS * MOST_HOLDERS;
+// The most lines of a pairing for each holder: there are fewer pairs than holders, and a pair has at most a line for each
+// asset.
+pub const LINES_A_HOLDER: usize = MOST_ASSETS;
+
+// The most lines of a pairing.
+pub const MOST_LINES: usize = LINES_A_HOLDER * MOST_HOLDERS;

@@ -23,6 +23,7 @@ impl Cause {
     }
 }
 
+// A match, as for the causes: an edit that gives both one number has to be refused by a proof.
 impl WriteFault {
     pub fn number(&self) -> u8
         ensures told_by_its_number { result ≡ write_number self.now }

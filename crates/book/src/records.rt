@@ -1,7 +1,7 @@
 // The records that a book is made of.
 
 // The contract: units of an asset for each contract, and the futures price in centavos.
-#[derive(Clone, Copy, Debug, PartialEq, Eq)]
+#[derive(Clone, Copy, Debug, Default, PartialEq, Eq)]
 pub struct Terms {
     pub multiplier: u32,
     pub price: u32,

@@ -17,10 +17,7 @@ impl Book {
         ensures all_zero { contents result ≡ empty_book }
     {
         Book {
-            terms: Terms {
-                multiplier: 0,
-                price: 0,
-            },
+            terms: Terms::default(),
             assets: Vec::new(heap),
             holders: Vec::new(heap),
         }

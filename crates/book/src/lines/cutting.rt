@@ -36,7 +36,7 @@ impl<'a> Iterator for Lines<'a> {
             number: self.number,
             ended: !more.is_empty(),
         };
-        // past the line end, if there is one
+        // past the line end, if there is one: one line, no plainer as a function
         self.rest = more.get(1..).unwrap_or(more);
         self.number += 1;
         Some(line)

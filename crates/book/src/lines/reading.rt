@@ -43,7 +43,8 @@ impl Line<'_> {
         }
     }
 
-    // Whether the first field is this kind.
+    // Whether the first field is this kind. By `step`, which is proved to give that field: an iterator's first item could
+    // be none.
     pub(crate) fn is_of(&self, kind: &[u8]) -> bool
         ensures value { result ≡ is_kind self.now.bytes.now kind.now }
     {
@@ -55,7 +56,7 @@ impl Line<'_> {
     fn numbers(&self, heap: Global, kind: &[u8], bounds: &[Bound]) -> Result<Vec<i64>, ReadFault>
         ensures by_the_definition { Gives vec_items result (record_of self.now.number (row kind.now bounds.now (fields self.now.bytes.now)) (λ zs. zs)) }
     {
-        // by value, since what a closure promises is inferred only where no capture names a lifetime
+        // by value: with `self` captured the check infers no promise of this closure
         let number = self.number;
         read_row(heap, self.bytes, kind, bounds).map_err(|e| on_line(e, number))
     }
