@@ -11,6 +11,7 @@ pub mod stage;
 
 // The rule gives what was worked out by hand: pairs, prices, lines, values and nets. What its laws
 // suppose can be had.
+// It answers 0: the function is only what carries the theorems.
 pub fn worked_cases_hold() -> u8
     ensures cases_by_hand_agree { WorkedCases }
     ensures premises_can_be_had { PremisesHold }

@@ -17,6 +17,7 @@ pub struct Line {
 
 impl Line {
     // A line with no contracts, for places of a table that are not used yet.
+    // A constant, since an array repeats it, and `default()` is no constant.
     pub const NONE: Line = Line {
         stage: Stage::Member,
         buyer: 0,

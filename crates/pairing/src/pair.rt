@@ -1,5 +1,9 @@
 // Holders while they are paired, and the pairs made of them.
+ghost use Rattle.std.specs.Prelude.{◌≡◌};
+ghost use Rattle.pairing.specs.Pairing.{unpaired};
+
 use crate::stage::Stage;
+use book::records::Holder;
 
 // A holder with the contracts that are not paired yet.
 #[derive(Clone, Copy, Default, PartialEq, Eq, Debug)]
@@ -11,6 +15,22 @@ pub struct Unpaired {
     // A flag, as the rule's definition has it: its two sides are `buys` and `not buys` of the same words.
     pub buys: bool,
     pub volume: u32,
+}
+
+// A holder of a book, with all of its contracts unpaired.
+impl From<Holder> for Unpaired {
+    ghost from_gives = { λ h u. u ≡ unpaired h };
+
+    fn from(h: Holder) -> Unpaired {
+        Unpaired {
+            member: h.member,
+            number: h.number,
+            clearing: h.clearing,
+            agent: h.agent,
+            buys: h.buys(),
+            volume: h.volume(),
+        }
+    }
 }
 
 // Contracts of a buyer against those of a seller, both by their place among the holders, from 0.

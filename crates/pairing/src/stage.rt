@@ -14,6 +14,7 @@ pub enum Stage {
 }
 
 // The number by which a stage is told, from 1 on.
+// A match, and not the variants' own values: an edit that gives two stages one number has to be refused by a proof.
 impl From<Stage> for u8 {
     ghost from_gives = { λ s n. n ≡ stage_number s };
 
