@@ -1,7 +1,6 @@
 // Reads a book file from standard input, pairs the book without notices and prints its lines, or why it is refused.
 #![tactic(auto)]
 
-use anyhow::anyhow;
 use book::book::Book;
 use book::limits::MOST_LINES;
 use book_report::read_input;
@@ -12,9 +11,7 @@ use pairs::whole_book::pair_without_notices;
 // Pairs the book and prints its lines.
 fn list(rt: &HostRuntime, book: &Book) -> anyhow::Result<()> {
     let mut table = [Line::NONE; MOST_LINES];
-    let Ok(count) = pair_without_notices(book, &mut table) else {
-        return Err(anyhow!("the table of lines is too small"));
-    };
+    let count = pair_without_notices(book, &mut table)?;
     print_lines(rt, book, &table[0..count])
 }
 

@@ -1,7 +1,6 @@
 // Plays a table of books with notices, one in each line, and prints the lines of each.
 #![tactic(auto)]
 
-use anyhow::anyhow;
 use book::book::Book;
 use book::limits::{MOST_HOLDERS, MOST_LINES};
 use book::lines::Lines;
@@ -52,10 +51,8 @@ fn list(rt: &HostRuntime, book: &Book, lots: &[u8]) -> anyhow::Result<()> {
     for lot in lots.split(|b| *b == b' ') {
         note(&mut records, lot);
     }
-    hand_out(book, &mut records).map_err(|_| anyhow!("there are too few records"))?;
-    let Ok(lines) = pair(book, &records, &mut table) else {
-        return Err(anyhow!("the table of lines is too small"));
-    };
+    hand_out(book, &mut records)?;
+    let lines = pair(book, &records, &mut table)?;
     print_lines(rt, book, &table[0..lines])
 }
 

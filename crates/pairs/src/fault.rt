@@ -1,6 +1,9 @@
 // Why pairing is refused.
-ghost use Rattle.std.specs.Prelude.{◌≡◌};
-ghost use Rattle.pairs.specs.Refusals.{number};
+ghost use Rattle.std.specs.Prelude.{◌≡◌, Some};
+ghost use Rattle.pairs.specs.Refusals.{number, told};
+
+use std::error::Error;
+use std::fmt;
 
 // A table has too few places: four lines a holder, and a record of lots for each holder.
 #[derive(Clone, Copy, PartialEq, Eq, Debug)]
@@ -11,6 +14,7 @@ pub enum PairingFault {
 
 impl PairingFault {
     // The number of the refusal.
+    // A match, and no constant: an edit that gives one of them another number has to be refused by a proof.
     pub fn number(self) -> u8
         ensures numbered { result ≡ number self }
     {
@@ -19,3 +23,16 @@ impl PairingFault {
         }
     }
 }
+
+impl fmt::Display for PairingFault {
+    ghost output = { λ e. Some (told e) };
+
+    fn fmt<W: fmt::Write>(&self, f: &mut fmt::Formatter<W>) -> fmt::Result {
+        match self {
+            PairingFault::FewLines => write!(f, "the table of lines is too small"),
+            PairingFault::FewRecords => write!(f, "there are too few records"),
+        }
+    }
+}
+
+impl Error for PairingFault {}

@@ -10,7 +10,8 @@ use crate::lots::Lots;
 use pairing::line::Line;
 use pairing::pair::Pair;
 
-// The row of the holder at a place.
+// The row of the holder at a place. Its bound stays a clause: a `Pair` has plain numbers, so that a type of places would
+// only be made of them again at each call.
 fn row_of(place: usize) -> u16
     requires { place < most_holders }
     ensures { result ≡ place + 1 }

@@ -13,7 +13,7 @@ pub struct SellerLots {
 }
 
 impl SellerLots {
-    // Nothing notified yet.
+    // Nothing notified yet. A constant, since an array repeats it, and `default()` is no constant.
     pub const NONE: SellerLots = SellerLots {
         lots: [0; MOST_ASSETS],
         notified: 0,

@@ -25,21 +25,8 @@ fn lower_both(holders: &mut [Unpaired], p: Pair)
     holders[p.seller].volume -= p.contracts;
 }
 
-// A holder with all of its contracts unpaired. (`From` would have to stand beside the type, in `pairing`.)
-fn unpaired_one(h: Holder) -> Unpaired
-    ensures { result ≡ unpaired h }
-{
-    Unpaired {
-        member: h.member,
-        number: h.number,
-        clearing: h.clearing,
-        agent: h.agent,
-        buys: h.buys(),
-        volume: h.volume(),
-    }
-}
-
 // All holders with all of their contracts unpaired, in the first places of a table.
+// The bound on the holders stays a clause here, as in `rows`: a struct of this crate would only carry it to two callers.
 fn unpaired_all(holders: &[Holder]) -> [Unpaired; MOST_HOLDERS]
     requires { length holders.now ≤ most_holders }
     ensures in_the_first_places { take (length holders.now) result ≡ map unpaired holders.now }
@@ -48,7 +35,7 @@ fn unpaired_all(holders: &[Holder]) -> [Unpaired; MOST_HOLDERS]
     let mut table = [Unpaired::default(); MOST_HOLDERS];
     // by index: of what is written through a zip with `iter_mut` a proof knows nothing
     for (i, h) in holders.iter().enumerate() {
-        table[i] = unpaired_one(*h);
+        table[i] = Unpaired::from(*h);
     }
     table
 }
@@ -59,7 +46,7 @@ fn unpaired_all(holders: &[Holder]) -> [Unpaired; MOST_HOLDERS]
 pub(crate) struct Pairer {
     pairs: ArrayVec<Pair, MOST_HOLDERS>,
     // no `ArrayVec`: each search copies them, and a copy of one is a `Result`; with a new one pushed at each search the
-    // program `lines` took 50 to 65 percent more instructions by callgrind, which counts each byte that is cleared
+    // program `lines` took 50 to 65 percent more instructions by callgrind than the bar, the figures of docs/pairing.md
     holders: [Unpaired; MOST_HOLDERS],
     count: usize,
 }
@@ -178,7 +165,8 @@ impl Pairer {
     pub(crate) fn pair_all(&mut self)
         ensures { self.new ≡ and_then self.old (in_groups all_groups) }
     {
-        // three calls and no loop over the stages, since each goes up to a number of its own
+        // three calls are plain enough, and no loop over the stages: each goes up to a number of its own
+        // the whole book is group 0, as the rule's own `key` has it: an Option would be turned back into that number
         self.pair_stage(Stage::Member, MOST_MEMBER);
         self.pair_stage(Stage::Clearing, MOST_MEMBER);
         self.pair_stage(Stage::Agent, u16::from(MOST_AGENT));

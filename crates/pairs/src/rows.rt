@@ -13,6 +13,7 @@ use book::records::Holder;
 use pairing::line::Line;
 
 // The lines of the rows of a book with these lots, into a table with four places a holder.
+// The bound on the holders stays a clause, as in `pairer`: a struct of this crate would only carry it to two callers.
 pub(crate) fn lines_of_rows(holders: &[Holder], lots: &Lots, lines: &mut [Line]) -> usize
     requires few { length holders.now ≤ most_holders }
     requires room { places_a_holder * length holders.now ≤ length lines.old }

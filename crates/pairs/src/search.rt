@@ -8,6 +8,7 @@ use pairing::pair::Unpaired;
 use pairing::stage::{Group, Stage};
 
 // Which holders of a group stand for the next pair: those with a volume that the other side has too, or all with volume.
+// An enum and no closure: the definition `passes` matches on it, and a closure's contract would have to say the same.
 #[derive(Clone, Copy)]
 pub(crate) enum Choice {
     EqualVolumes,
@@ -22,6 +23,7 @@ fn key_of(h: &Unpaired, stage: Stage) -> u16
         Stage::Member => h.member,
         Stage::Clearing => h.clearing,
         Stage::Agent => u16::from(h.agent),
+        // 0, as the rule's own `key` has it: all holders are of one group
         Stage::Whole => 0,
     }
 }
@@ -36,7 +38,8 @@ pub(crate) fn has_group(holders: &[Unpaired], group: Group) -> bool
 }
 
 // An open holder of the group on this side. (A side is the flag `buys` that a holder has: an enum would only be turned
-// into that flag again, here and in the rule's definition.)
+// into that flag again, here and in the rule's definition. Group and side stay two arguments here and below, as the
+// definitions `side_in` and `passes` take them: a pair would be taken apart in each clause. So does the choice.)
 fn stands_in(h: &Unpaired, group: Group, buys: bool) -> bool
     ensures { result ≡ side_in group buys h.now }
 {

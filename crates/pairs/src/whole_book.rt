@@ -13,12 +13,8 @@ use crate::handing::Ending;
 use crate::lots::{Lots, SellerLots};
 use crate::rows::lines_of_rows;
 use book::book::Book;
-use book::limits::MOST_HOLDERS;
+use book::limits::{LINES_A_HOLDER, MOST_HOLDERS};
 use pairing::line::Line;
-
-// The places that a table of lines needs for each holder: there are fewer pairs than holders, and a pair has at most a
-// line for each of four assets.
-const PLACES_A_HOLDER: usize = 4;
 
 // Pairs the book and writes its lines.
 fn pair_book(book: &Book, lots: &[SellerLots], lines: &mut [Line]) -> Result<usize, PairingFault>
@@ -27,7 +23,7 @@ fn pair_book(book: &Book, lots: &[SellerLots], lines: &mut [Line]) -> Result<usi
     ensures count_within_the_table { IfOk result (λ n. n ≤ length lines.old) }
 {
     let holders = book.holders();
-    if lines.len() < PLACES_A_HOLDER * holders.len() {
+    if lines.len() < LINES_A_HOLDER * holders.len() {
         return Err(PairingFault::FewLines);
     }
     let lots = Lots {
@@ -38,7 +34,8 @@ fn pair_book(book: &Book, lots: &[SellerLots], lines: &mut [Line]) -> Result<usi
     Ok(lines_of_rows(holders, &lots, lines))
 }
 
-// The same, with what the laws say of the lines.
+// The same, with what the laws say of the lines: a layer of its own, since the laws are proved of what is written above,
+// by its contract alone.
 fn pair_by_law(book: &Book, lots: &[SellerLots], lines: &mut [Line]) -> Result<usize, PairingFault>
     ensures answers_the_count { result ≡ pair_answer (contents book.now) (lots_in (contents book.now) lots.now) lines.old }
     ensures lines_as_defined { lines.new ≡ pair_leaves (contents book.now) (lots_in (contents book.now) lots.now) lines.old }
