@@ -12,7 +12,7 @@ pub mod reading;
 pub struct Counts {
     pub accounts: usize,
     pub assets: usize,
-    // With `assets` beside it, and no `ArrayVec`, which is not `Copy`, and whose clone is a `Result`: the places past the last asset are 0 and told to nobody.
+    // No `ArrayVec`, which is not `Copy` and whose clone is a `Result`: past the last asset is 0, told to nobody.
     pub issues: [u64; MOST_ASSETS],
     ghost few_accounts: { accounts ≤ most_accounts },
     ghost few_assets: { assets ≤ most_assets },

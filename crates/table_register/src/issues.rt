@@ -50,7 +50,8 @@ fn counted_issues(
     if !is_shaped(cells, accounts, assets) {
         return Err(MakeFault::BadShape);
     }
-    // By index: `array::try_from_fn` does not tell that each call was made with these cells, so the check knows no sum after it, nor after `issues.iter_mut().enumerate().take(assets)`.
+    // By index: `array::try_from_fn` does not tell that its calls were made with these cells, and after a loop over
+    // `issues.iter_mut().enumerate().take(assets)` the check knows no element of `issues`.
     let mut issues = [0u64; MOST_ASSETS];
     for asset in 0..assets {
         issues[asset] = column_sum(cells, accounts, assets, asset).ok_or(MakeFault::TooMuch)?;
@@ -59,7 +60,7 @@ fn counted_issues(
 }
 
 // The issue of each asset of the memory `cells` as a table of these counts.
-// Memory and counts travel apart, here and in `Counts::laid_out`: not known to be in range yet, they have no fact in common.
+// Memory and counts are no struct, here and in `Counts::laid_out`: not known to be in range, they have no fact to keep.
 // A thin call, so that a wrong one is refused here, by this contract.
 pub fn issues_of(
     cells: &[u64],
