@@ -1,6 +1,8 @@
 -- Entries, each accepted in its turn. Assumes nothing.
 use Rattle.std.proofs.Common.{◌≡◌, ℕ, zero, suc, ◌+◌, ◌<◌, ◌≤◌, true, List, [], ◌∷◌, ◌++◌, length, get_or, take, Ok, Err, sym, refl, ap, ◌∙◌, ⊎_elim, arith}
 use Rattle.std.specs.Prelude.{is_ok}
+use Rattle.std.specs.List.{sum_by}
+use Rattle.std.proofs.lemmas.List.Sums.{sum_by-cons}
 use Rattle.std.proofs.lemmas.Bool.{and_parts, and_from, cases_lt}
 use Rattle.std.proofs.lemmas.Bool.Decides.{nat_tests}
 use Rattle.register.specs.declared.instruction.Instruction.{Instruction}
@@ -13,7 +15,7 @@ use Rattle.register.proofs.Alike.{all_more}
 use Rattle.register.proofs.Lawfuls.{all_lawful}
 use Rattle.day_book.specs.declared.day.DayBook.{DayBook}
 use Rattle.day_book.specs.DayTable.{waits}
-use Rattle.day_book.specs.DayMeaning.{posted_means, posted_lawful}
+use Rattle.day_book.specs.DayMeaning.{posted_means, means, posted_lawful}
 use Rattle.day_book.specs.Entering.{apply, added, each_accepted}
 
 accepts : (r : Answer) → is_ok r ≡ true → r ≡ Ok tt
@@ -32,6 +34,16 @@ step_issue m (Credit to of amount) ok s =
 step_issue m (Move giver taker of amount) ok s =
     let same : m.issue s ≡ m.issue s + 0 = omega arith in
     ap (λ r. (unless_refused r (with_move m giver taker of amount) m).issue s) (accepted_none (transfer_refused m giver taker of amount) (sym ok)) ∙ same
+
+-- what all of them add to an issue
+pub all_issue : (m : Meaning) (es : List Instruction) → each_accepted m es ≡ true → (s : ℕ) → (after_all m es).issue s ≡ m.issue s + sum_by (λ e. added e s) es
+all_issue m [] fit s = omega arith
+all_issue m (e ∷ es) fit s =
+    let parts = and_parts (is_ok (instruction_answer m e)) (each_accepted (after_instruction m e) es) fit in
+    let one = step_issue m e (accepts (instruction_answer m e) parts.0) s in
+    let rest = all_issue (after_instruction m e) es parts.1 s in
+    let sums = sum_by-cons (λ k. added k s) e es in
+    omega (arith, one, rest, sums)
 
 -- the entry at a place is accepted after those before it
 pub in_turn : (m : Meaning) (es : List Instruction) (i : ℕ) (d : Instruction) → each_accepted m es ≡ true → i < length es → instruction_answer (after_all m (take i es)) (get_or es i d) ≡ Ok tt
@@ -66,6 +78,14 @@ balance_le m ok a s =
     (λ (h : m.accounts ≤ a). let none = ok.no_account a s h in omega (arith, none))
     (cases_lt a m.accounts)
 
+-- the issue of a day book: the posted one and what the entries that wait add
+module _ (x : DayBook) (es : List Instruction) (all : es ≡ waits x.entries) (s : ℕ) where
+  pub issue_told : (means x).issue s ≡ (posted_means x).issue s + sum_by (λ e. added e s) es
+  issue_told = all_issue (posted_means x) (waits x.entries) x.accepted s ∙ ap (λ k. (posted_means x).issue s + sum_by (λ e. added e s) k) (sym all)
+
+  pub issue_fits : (posted_means x).issue s + sum_by (λ e. added e s) es ≤ most
+  issue_fits = let le = (all_lawful (posted_means x) (waits x.entries) (posted_lawful x)).bounded s in omega (arith, le, issue_told)
+
 -- the step from the entries of a day book before a place to those up to it
 module _ (x : DayBook) (es : List Instruction) (all : es ≡ waits x.entries) (i : ℕ) (h : i < length es) where
   abbrev m : Meaning
@@ -83,14 +103,8 @@ module _ (x : DayBook) (es : List Instruction) (all : es ≡ waits x.entries) (i
   pub next_balance : (a s : ℕ) → (after_all (posted_means x) (take (i + 1) es)).balance a s ≡ apply (get_or es i (Credit 0 0 0)) a s ((after_all (posted_means x) (take i es)).balance a s)
   next_balance a s = ap (λ (k : Meaning). k.balance a s) (all_more m es i (Credit 0 0 0) h) ∙ step_balance (after_all m (take i es)) e accepted_then a s
 
-  pub next_issue : (s : ℕ) → (after_all (posted_means x) (take (i + 1) es)).issue s ≡ (after_all (posted_means x) (take i es)).issue s + added (get_or es i (Credit 0 0 0)) s
-  next_issue s = ap (λ (k : Meaning). k.issue s) (all_more m es i (Credit 0 0 0) h) ∙ step_issue (after_all m (take i es)) e accepted_then s
-
   pub next_balance_le : (a s v : ℕ) → v ≡ (after_all (posted_means x) (take i es)).balance a s → apply (get_or es i (Credit 0 0 0)) a s v ≤ most
   next_balance_le a s v is =
       let le = balance_le (after_all m (take (i + 1) es)) lawful_then a s in
       let here = ap (apply e a s) is in
       omega (arith, le, next_balance a s, here)
-
-  pub next_issue_le : (s : ℕ) → (after_all (posted_means x) (take i es)).issue s + added (get_or es i (Credit 0 0 0)) s ≤ most
-  next_issue_le s = let le = lawful_then.bounded s in omega (arith, le, next_issue s)

@@ -1,5 +1,5 @@
 // The entries of a day book: how many may wait, and what each does to a balance and to an issue.
-ghost use Rattle.std.specs.Prelude.{◌≡◌, ◌≤◌};
+ghost use Rattle.std.specs.Prelude.{◌≡◌, ◌≤◌, sum_by};
 ghost use Rattle.register.specs.Rules.{most};
 ghost use Rattle.day_book.specs.Entering.{apply, added as added_by};
 
@@ -20,6 +20,14 @@ pub(crate) fn added(entry: Instruction, asset: usize) -> u64
         } if of == asset => amount,
         _ => 0,
     }
+}
+
+// What entries add to the issue of an asset together.
+pub(crate) fn added_together(entries: &[Instruction], asset: usize) -> u64
+    requires { sum_by (λ e. added_by e asset) entries.now ≤ most }
+    ensures { result ≡ sum_by (λ e. added_by e asset) entries.now }
+{
+    entries.iter().map(|entry| added(*entry, asset)).sum()
 }
 
 // The balance of an account and asset after an entry, `held` before it.

@@ -16,6 +16,7 @@ pub trait Balances {
     ghost lawful: { (x : Self) → Lawful (record { accounts = accounts x; assets = assets x; balance = balance x; issue = issue x }) };
 
     // The name of the memory that was lent to the register; it has it until it is given up.
+    // A fact of old and new, so each call that moves says it in a clause: no invariant can hold it.
     ghost lender: { Self → ℕ };
 
     fn account_count(&self) -> usize

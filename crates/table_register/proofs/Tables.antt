@@ -137,6 +137,10 @@ module _ (cells : List ℕ) (accounts assets account asset p : ℕ) (size : acco
 
 -- two writes of a table, the giver's cell at p and then the taker's at q
 module _ (cells : List ℕ) (accounts assets giver taker asset p q amount : ℕ) (size : accounts * assets ≤ length cells) (hg : giver < accounts) (ht : taker < accounts) (hs : asset < assets) (at : p ≡ giver * assets + asset) (to : q ≡ taker * assets + asset) (apart : giver ≡ taker → ⊥) where
+  -- the taker's balance is as it was once the giver's is lowered
+  pub taken_stays : (v : ℕ) → get_or (set cells p v) q 0 ≡ get_or cells q 0
+  taken_stays v = get_or-set_other cells p q v 0 (λ e. apart (same_row giver taker assets asset asset hs hs (sym at ∙ sym e ∙ to)))
+
   pub move_cell : (a s : ℕ) → cell (set (set cells p (get_or cells p 0 - amount)) q (get_or cells q 0 + amount)) accounts assets a s ≡ moved (cell cells accounts assets) giver taker asset amount a s
   move_cell a s =
       let outer = put_cell (set cells p (get_or cells p 0 - amount)) accounts assets taker asset q (size_set _ _ _ _ size) ht hs to (get_or cells q 0 + amount) a s in

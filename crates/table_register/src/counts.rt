@@ -12,6 +12,7 @@ pub mod reading;
 pub struct Counts {
     pub accounts: usize,
     pub assets: usize,
+    // No `ArrayVec`, which is not `Copy` and whose clone is a `Result`: past the last asset is 0, told to nobody.
     pub issues: [u64; MOST_ASSETS],
     ghost few_accounts: { accounts ≤ most_accounts },
     ghost few_assets: { assets ≤ most_assets },

@@ -15,8 +15,12 @@ fn with_balance(sum: u64, held: u64) -> Option<u64>
 }
 
 // The sum of one asset's balances, or none where it is above the most.
+// No `try_fold`, which would be no plainer: its closure would need the bound on the sum so far as a contract.
 fn column_sum(cells: &[u64], accounts: usize, assets: usize, asset: usize) -> Option<u64>
-    requires { (accounts ≤ most_accounts) × ((assets ≤ most_assets) × ((asset < assets) × (length cells.now ≡ accounts * assets))) }
+    requires few_accounts { accounts ≤ most_accounts }
+    requires few_assets { assets ≤ most_assets }
+    requires known { asset < assets }
+    requires size { length cells.now ≡ accounts * assets }
     ensures { result ≡ within_most (column cells.now accounts assets asset) }
 {
     let mut sum = 0u64;
@@ -46,7 +50,8 @@ fn counted_issues(
     if !is_shaped(cells, accounts, assets) {
         return Err(MakeFault::BadShape);
     }
-    // By index: after a loop over `issues.iter_mut().enumerate().take(assets)` the check knows no element of `issues`.
+    // By index: `array::try_from_fn` does not tell that its calls were made with these cells, and after a loop over
+    // `issues.iter_mut().enumerate().take(assets)` the check knows no element of `issues`.
     let mut issues = [0u64; MOST_ASSETS];
     for asset in 0..assets {
         issues[asset] = column_sum(cells, accounts, assets, asset).ok_or(MakeFault::TooMuch)?;
@@ -55,6 +60,8 @@ fn counted_issues(
 }
 
 // The issue of each asset of the memory `cells` as a table of these counts.
+// Memory and counts are no struct, here and in `Counts::laid_out`: not known to be in range, they have no fact to keep.
+// A thin call, so that a wrong one is refused here, by this contract.
 pub fn issues_of(
     cells: &[u64],
     accounts: usize,

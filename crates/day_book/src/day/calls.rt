@@ -7,7 +7,7 @@ ghost use Rattle.day_book.specs.DayTable.{waits, MemoryAfter};
 ghost use Rattle.day_book.specs.DayMeaning.{means, day_lawful};
 
 use crate::day::DayBook;
-use crate::entries::{added, applied};
+use crate::entries::{added_together, applied};
 use register::balances::Balances;
 use register::checks::{check_credit, check_transfer};
 use register::fault::RegisterFault;
@@ -16,6 +16,7 @@ use register::transfers::Transfers;
 
 impl DayBook<'_> {
     // The posted balance with the entries applied.
+    // No `fold`: each step has to be known to stay within the most, which its closure would need as a contract.
     fn balance_with_entries(&self, account: usize, asset: usize) -> u64
         ensures { result ≡ (means self.now).balance account asset }
     {
@@ -27,14 +28,11 @@ impl DayBook<'_> {
     }
 
     // The posted issue with the credits that wait added.
+    // No sum of them is stored, which would have to agree with the entries: adding takes at most 64 steps in memory.
     fn issue_with_entries(&self, asset: usize) -> u64
         ensures { result ≡ (means self.now).issue asset }
     {
-        let mut issue = self.counts.issue_of(asset);
-        for entry in self.entries.iter() {
-            issue += added(*entry, asset);
-        }
-        issue
+        self.counts.issue_of(asset) + added_together(&self.entries, asset)
     }
 }
 

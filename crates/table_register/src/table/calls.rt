@@ -12,12 +12,13 @@ use register::fault::RegisterFault;
 use register::transfers::Transfers;
 
 impl TableRegister<'_> {
+    // Where the balance of a known account and asset is, which is inside the memory.
     fn place(&self, account: usize, asset: usize) -> usize
         requires known { (account < self.now.counts.accounts) × (asset < self.now.counts.assets) }
         ensures place { result ≡ account * self.now.counts.assets + asset }
         ensures inside { result < length self.now.cells.now }
     {
-        account * self.counts.assets + asset
+        self.counts.place(account, asset)
     }
 
     // Enters an accepted credit.
@@ -28,11 +29,9 @@ impl TableRegister<'_> {
         ensures lender { self.new.cells.ghost_name ≡ self.old.cells.ghost_name }
     {
         let place = self.place(account, asset);
-        let held = self.cells[place];
-        let issued = self.counts.issues[asset];
         // The issue first: it covers the balances all the time.
-        self.counts.issues[asset] = issued + amount;
-        self.cells[place] = held + amount;
+        self.counts.issues[asset] += amount;
+        self.cells[place] += amount;
     }
 
     // Enters an accepted move.
@@ -44,10 +43,8 @@ impl TableRegister<'_> {
     {
         let from = self.place(giver, asset);
         let to = self.place(taker, asset);
-        let held = self.cells[from];
-        let had = self.cells[to];
-        self.cells[from] = held - amount;
-        self.cells[to] = had + amount;
+        self.cells[from] -= amount;
+        self.cells[to] += amount;
     }
 }
 

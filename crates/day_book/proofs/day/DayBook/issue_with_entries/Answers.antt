@@ -1,13 +1,12 @@
 use Rattle.std.proofs.Common.{arith}
-use Rattle.day_book.proofs.Turns.{next_issue, next_issue_le}
+use Rattle.day_book.proofs.Turns.{issue_told, issue_fits}
 use Rattle.day_book.proofs.day.DayBook.issue_with_entries.Goals as goal
 
-pub overflow_add-issue : goal.overflow_add-issue
-overflow_add-issue c =
-    let le = next_issue_le c.args.self.now c.deref-entry-items.result.now c.deref-entry-items.ensures.0 c.loop-entry.entry-index c.loop-entry-test.true c.args.asset in
-    omega (arith, le, c.added-issue.ensures, c.loop-entry.invariant)
+pub added_together-requires : goal.added_together-requires
+added_together-requires c = omega (arith, issue_fits c.args.self.now c.deref.result.now c.deref.ensures.0 c.args.asset)
 
-pub loop-entry-preserved : goal.loop-entry-preserved
-loop-entry-preserved c =
-    let next = next_issue c.args.self.now c.deref-entry-items.result.now c.deref-entry-items.ensures.0 c.loop-entry.entry-index c.loop-entry-test.true c.args.asset in
-    omega (arith, next, c.added-issue.ensures, c.loop-entry.invariant)
+pub overflow_add-result : goal.overflow_add-result
+overflow_add-result c = omega (arith, issue_fits c.args.self.now c.deref.result.now c.deref.ensures.0 c.args.asset, c.issue_of.ensures.tells_the_issue, c.added_together.ensures)
+
+pub returns : goal.returns
+returns c = omega (arith, issue_told c.args.self.now c.deref.result.now c.deref.ensures.0 c.args.asset, c.issue_of.ensures.tells_the_issue, c.added_together.ensures)
