@@ -28,6 +28,7 @@ fn after(rest: &[u8]) -> &[u8]
 
 // The value of a hexadecimal digit; 0 for any other byte.
 // By hand, since the library's `to_digit` takes upper-case letters too, which are no digits of a table.
+// No Option: a wrong digit shows as a wrong answer to a case.
 fn digit(c: u8) -> u8
     ensures below_sixteen { result ≤ 15 }
 {

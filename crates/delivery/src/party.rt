@@ -31,6 +31,7 @@ pub fn inside(line: &Line) -> u32
 fn agent_of(book: &Book, row: usize) -> usize
     ensures { result ≡ (holder (contents book.now) row).agent }
 {
+    // checked_sub, then get: one chain of the library's, which a method of the book would only hide.
     row.checked_sub(1)
         .and_then(|place| book.holders().get(place))
         .map_or(0, |holder| usize::from(holder.agent))

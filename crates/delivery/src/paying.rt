@@ -19,6 +19,7 @@ use register::transfers::Transfers;
 use rules::side::Side;
 
 // Places for amounts by agent: agents are numbered from 1, and place 0 is nobody's.
+// By `as`, since the value of a constant calls no function.
 pub const AGENT_PLACES: usize = MOST_AGENT as usize + 1;
 
 // Pays an amount out of the house's account; nothing where it is 0.

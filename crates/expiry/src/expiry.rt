@@ -1,4 +1,5 @@
 // One expiry, which only its own calls change.
+// Both constants are kept reachable here for callers.
 pub use delivery::paying::AGENT_PLACES;
 pub use state::state::MOST_HOLDERS;
 use state::state::State;

@@ -33,6 +33,7 @@ impl AskedCredit {
         ensures meaning_follows_the_rules { meaning R.Balances register.new ≡ unless_refused (credit_stops self.side (meaning R.Balances register.old) self.account self.asset self.amount) (with_credit (meaning R.Balances register.old) self.account self.asset self.amount) (meaning R.Balances register.old) }
         ensures memory_is_kept { R.Balances.lender register.new ≡ R.Balances.lender register.old }
     {
+        // There is no `From` that widens a `usize`.
         if self.account == HOUSE as u64 {
             return Err(Cause::HouseCredit);
         }

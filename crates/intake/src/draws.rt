@@ -6,10 +6,9 @@ ghost use Rattle.register.specs.Rules.{Meaning};
 ghost use Rattle.state.specs.Seeing.{seen};
 ghost use Rattle.state.specs.Following.{Follows};
 ghost use Rattle.state.specs.Calls.{draw_call, end_call};
-ghost use Rattle.state.specs.Leaving.{without_draws};
 ghost use Rattle.state.specs.Making.{FollowsOnMade};
 
-use delivery::paying::{AGENT_PLACES, pay_agents};
+use delivery::paying::pay_agents;
 use delivery::sums::debit;
 use delivery::taking::draw;
 use pairing::line::Line;
@@ -39,6 +38,7 @@ fn draw_made<C: Transfers>(
     ensures goes_on_by_the_rules { (securities : Meaning) → FollowsOnMade state.old state.new lines.now lines.now securities securities (meaning C.Balances cash.old) (meaning C.Balances cash.new) (draw_call agent) result }
     ensures memory_is_kept { C.Balances.lender cash.new ≡ C.Balances.lender cash.old }
 {
+    // By let-else, so that both refusals of this one cause read alike.
     let Some(&drawn) = state.draws.get(agent) else {
         return Err(Cause::NothingDue);
     };
@@ -66,20 +66,12 @@ pub fn draw_debit<C: Transfers>(
     draw_made(state, &lines[..n], cash, agent as usize)
 }
 
-// Begins partial delivery, with no draw held.
-fn begin_partial(state: &mut State)
-    ensures { state.new ≡ without_draws state.old session_of.PartialDelivery }
-{
-    state.draws = [0; AGENT_PLACES];
-    state.session = Session::PartialDelivery;
-}
-
 fn return_by_rules<C: Transfers>(state: &mut State, cash: &mut C) -> Result<Answer, Cause>
     ensures goes_on_by_the_rules { (lines : List Line) (securities : Meaning) → state.old.session ≡ session_of.WholeDelivery → Follows (seen state.old lines securities (meaning C.Balances cash.old)) end_call result (seen state.new lines securities (meaning C.Balances cash.new)) }
     ensures memory_is_kept { C.Balances.lender cash.new ≡ C.Balances.lender cash.old }
 {
     pay_agents(cash, &state.draws)?;
-    begin_partial(state);
+    state.drop_draws(Session::PartialDelivery);
     Ok(Answer::Done)
 }
 

@@ -24,6 +24,7 @@ fn on_to_pairing(state: &mut State)
 fn end_by_rules(state: &mut State) -> Result<Answer, Cause>
     ensures goes_on_by_the_rules { (lines : List Line) (securities cash : Meaning) → state.old.session ≡ session_of.ClearingNotices → Follows (seen state.old lines securities cash) end_call result (seen state.new lines securities cash) }
 {
+    // Never refused: each holder of any book has a record. Too few would be told as the line table, as no other part fits.
     hand_out(&state.book, &mut state.lots).map_err(|_| Cause::TooSmall(Part::LineTable))?;
     on_to_pairing(state);
     Ok(Answer::Done)

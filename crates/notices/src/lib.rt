@@ -1,4 +1,4 @@
-// Sessions 1 to 3 of an expiry: notices, what their end gives, and pairing.
+// The first three sessions of an expiry, the members' notices, the clearing members' notices and pairing, and what their ends give.
 #![tactic(auto)]
 
 pub mod ending;

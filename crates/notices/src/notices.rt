@@ -31,7 +31,7 @@ struct AskedNotice {
     contracts: u64,
 }
 
-// Whether the speaker is the seller's clearing member or, in session 1, its member.
+// Whether the speaker is the seller's clearing member or, in the members' notices, its member.
 fn speaks_for(session: Session, speaker: Speaker, seller: &Holder) -> bool
     ensures { result ≡ speaks_for session speaker seller.now }
 {

@@ -27,6 +27,7 @@ fn on_to_delivery(state: &mut State, count: usize, nets: [i64; AGENT_PLACES])
 fn pair_by_rules(state: &mut State, lines: &mut [Line]) -> Result<Answer, Cause>
     ensures goes_on_by_the_rules { (securities cash : Meaning) → Follows (seen state.old lines.old securities cash) pair_call result (seen state.new lines.new securities cash) }
 {
+    // Never refused in an expiry, which looks for room before each call: the one fault that can come is too few lines.
     let n = pair(&state.book, &state.lots, lines).map_err(|_| Cause::TooSmall(Part::LineTable))?;
     let each_net = nets(&state.book, &lines[..n]);
     on_to_delivery(state, n, each_net);

@@ -18,11 +18,11 @@ use state::state::State;
 use state::table::made;
 
 // The place of a line by its number, which counts from 1.
-// 64 bits both: a `TryFrom` would add a case that never comes.
 fn place_of(lines: &[Line], line: u64) -> Option<usize>
     ensures { Placed (length lines.now) line result }
 {
-    (line as usize)
+    usize::try_from(line)
+        .ok()?
         .checked_sub(1)
         .filter(|&place| place < lines.len())
 }
@@ -37,6 +37,7 @@ fn deliver_made<S: Transfers, C: Transfers>(
     ensures goes_on_by_the_rules { FollowsOnMade state.now state.now lines.old lines.new (meaning S.Balances securities.old) (meaning S.Balances securities.new) (meaning C.Balances cash.old) (meaning C.Balances cash.new) (line_call line) result }
     ensures memory_is_kept { (S.Balances.lender securities.new ≡ S.Balances.lender securities.old) × (C.Balances.lender cash.new ≡ C.Balances.lender cash.old) }
 {
+    // By let-else, so that both refusals of this one cause read alike.
     let Some(place) = place_of(lines, line) else {
         return Err(Cause::NothingDue);
     };

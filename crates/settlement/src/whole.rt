@@ -2,17 +2,14 @@
 ghost use Rattle.std.specs.Prelude.{◌≡◌, ℕ, ◌&&◌};
 ghost use Rattle.book.specs.Data.{contents};
 ghost use Rattle.register.specs.Registers.{meaning};
-ghost use Rattle.rules.specs.declared.session.Session.TheVariants as session_of;
 ghost use Rattle.delivery.specs.Sums.{ValuesFit};
 ghost use Rattle.state.specs.Seeing.{seen};
 ghost use Rattle.state.specs.Following.{Follows};
 ghost use Rattle.state.specs.Calls.{whole_call};
 ghost use Rattle.settlement.specs.InFull.{taken_in_full, short, drawn_in_full};
-ghost use Rattle.state.specs.Leaving.{without_draws};
 ghost use Rattle.state.specs.Making.{FollowsOnMade};
 
 use book::records::Holder;
-use delivery::paying::AGENT_PLACES;
 use delivery::sums::debit;
 use delivery::taking::all_taken;
 use delivery::whole::settle_whole;
@@ -34,6 +31,7 @@ fn falls_short(state: &State, lines: &[Line], holder: &Holder) -> bool
 }
 
 // Whether every debit of the book's agents is drawn.
+// By `any`, as the rules say that none falls short: `all` would ask the same of a negated question.
 fn all_drawn(state: &State, lines: &[Line]) -> bool
     ensures { ((agent : ℕ) → ValuesFit (contents state.now.book) lines.now agent) → result ≡ drawn_in_full (contents state.now.book) lines.now state.now.draws }
 {
@@ -51,14 +49,6 @@ fn all_in(state: &State, lines: &[Line]) -> bool
     all_taken(lines) && all_drawn(state, lines)
 }
 
-// Closes the expiry, with no draw held.
-fn settled(state: &mut State)
-    ensures { state.new ≡ without_draws state.old session_of.Closed }
-{
-    state.draws = [0; AGENT_PLACES];
-    state.session = Session::Closed;
-}
-
 fn deliver_made<S: Transfers, C: Transfers>(
     state: &mut State,
     lines: &mut [Line],
@@ -72,7 +62,7 @@ fn deliver_made<S: Transfers, C: Transfers>(
         return Err(Cause::NotAllIn);
     }
     settle_whole(&state.book, lines, securities, cash)?;
-    settled(state);
+    state.drop_draws(Session::Closed);
     Ok(Answer::Done)
 }
 

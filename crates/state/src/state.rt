@@ -1,4 +1,7 @@
 // The state of one expiry: its book, its session, and what the calls so far left to be known.
+ghost use Rattle.std.specs.Prelude.{◌≡◌};
+ghost use Rattle.state.specs.Leaving.{without_draws};
+
 use book::book::Book;
 pub use book::limits::MOST_HOLDERS;
 use delivery::paying::AGENT_PLACES;
@@ -18,4 +21,14 @@ pub struct State {
     pub draws: [u64; AGENT_PLACES],
     pub nets: [i64; AGENT_PLACES],
     pub claims: [i64; AGENT_PLACES],
+}
+
+impl State {
+    // Goes on to a session with no draw held.
+    pub fn drop_draws(&mut self, session: Session)
+        ensures no_draw_held { self.new ≡ without_draws self.old session }
+    {
+        self.draws = [0; AGENT_PLACES];
+        self.session = session;
+    }
 }

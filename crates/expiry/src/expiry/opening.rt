@@ -54,7 +54,7 @@ fn check_opening<S: Balances, C: Balances>(
 }
 
 impl Expiry {
-    // In session 1, with nothing notified, paired, drawn or closed.
+    // In the members' notices, with nothing notified, paired, drawn or closed.
     fn new(book: Book) -> Expiry
         ensures { New (contents book) result.state }
     {
@@ -82,8 +82,8 @@ impl Expiry {
         Ok(Expiry::new(book))
     }
 
-    // Opens an expiry of the book in session 1, with the caller's table of lines and two registers of any make, of which
-    // it only reads; or refuses, the empty book first, then too little room, then a house that holds something.
+    // Opens an expiry of the book in the members' notices, with the caller's table of lines and two registers of any make,
+    // of which it only reads; or refuses, the empty book first, then too little room, then a house that holds something.
     // A thin call, so that a wrong one is refused here, by this contract.
     pub fn open<S: Balances, C: Balances>(
         book: Book,

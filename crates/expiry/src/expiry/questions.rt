@@ -22,10 +22,12 @@ fn amount_of(amounts: &[i64], agent: usize) -> i64
 }
 
 // The record of a row; an empty one where there is none.
+// No Option: who has no record has no lots, and the rules say so by the same empty record.
 fn record_at(records: &[SellerLots], row: usize) -> SellerLots
     ensures lots { (a : ℕ) → slice_index result.lots a ≡ slice_index (record_of records.now row).lots a }
     ensures notified { result.notified ≡ (record_of records.now row).notified }
 {
+    // checked_sub, then get: one chain of the library's, which a method for rows would only hide.
     row.checked_sub(1)
         .and_then(|place| records.get(place).copied())
         .unwrap_or(SellerLots::NONE)
@@ -36,6 +38,7 @@ fn record_at(records: &[SellerLots], row: usize) -> SellerLots
 fn volume_at(book: &Book, row: usize) -> u32
     ensures { result ≡ volume_of (holder_of (contents book.now) row) }
 {
+    // checked_sub, then get: one chain of the library's, which a method of the book would only hide.
     row.checked_sub(1)
         .and_then(|place| book.holders().get(place))
         .map_or(0, |h| h.volume())

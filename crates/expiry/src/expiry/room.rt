@@ -18,7 +18,8 @@ use rules::call::Call;
 use rules::fault::{Cause, Fault, Part};
 use rules::side::Side;
 
-// Pairs are fewer than holders, and each makes at most one line for each asset.
+// Pairs are fewer than holders.
+// As many as `pairs` asks a holder: a pair has at most one line for each asset.
 const LINES_A_HOLDER: usize = MOST_ASSETS;
 
 // Whether the table has places for all lines of the book.

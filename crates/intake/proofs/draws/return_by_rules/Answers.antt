@@ -22,5 +22,5 @@ returns-clause-goes_on_by_the_rules g c =
     let m' : Meaning = meaning g.C.Balances c.pay_agents.new.cash in
     λ lines s in_4 o h st now'.
     let paid = c.pay_agents.ensures.pays_where_no_move_is_refused (draws_go_back o h c.args.state.now lines s m st now') in
-    subst (λ (x : State). Stands o ((end_call, Ok Done) ∷ h) (seen x lines s m')) (sym c.begin_partial.ensures)
+    subst (λ (x : State). Stands o ((end_call, Ok Done) ∷ h) (seen x lines s m')) (sym c.drop_draws.ensures.no_draw_held)
     (returned_stands o h c.args.state.now lines s m st now' m' in_4 paid.1)

@@ -39,5 +39,5 @@ returns-clause-goes_on_by_the_rules g c =
     let ready = sym (c.all_in.ensures fit) ∙ c.if-not-all_in.false in
     let out = all_go_out o h c.args.state.now c.args.lines.now rest s m st many now' ready in
     let did = c.settle_whole.ensures.settles_where_no_move_is_refused fit (out Securities) (out Cash) in
-    subst (λ (x : State). Stands o ((whole_call, Ok Done) ∷ h) (seen x (c.settle_whole.new.lines ++ rest) s' m')) (sym c.settled.ensures)
+    subst (λ (x : State). Stands o ((whole_call, Ok Done) ∷ h) (seen x (c.settle_whole.new.lines ++ rest) s' m')) (sym c.drop_draws.ensures.no_draw_held)
     (settled_stands o h c.args.state.now c.args.lines.now rest s m st many now' ready c.settle_whole.new.lines s' m' did.1 did.2 did.3)
