@@ -4,6 +4,7 @@ use register::balances::Balances;
 use register::carrying::carry_out;
 use register::fault::{MakeFault, RegisterFault};
 use register::transfers::Transfers;
+use std::fmt;
 
 // Why a making, a credit or a move was refused.
 #[derive(Clone, Copy, PartialEq, Eq)]
@@ -36,6 +37,20 @@ impl Fault {
 // A question is answered with a number, and what is accepted with none.
 pub(crate) type Answer = Result<Option<u64>, Fault>;
 
+// An answer as it is printed.
+#[derive(Drop)]
+pub(crate) struct Told(pub(crate) Answer);
+
+impl fmt::Display for Told {
+    fn fmt<W: fmt::Write>(&self, f: &mut fmt::Formatter<W>) -> fmt::Result {
+        match &self.0 {
+            Ok(None) => write!(f, "ok"),
+            Ok(Some(number)) => write!(f, "{number}"),
+            Err(fault) => write!(f, "refused,{}", fault.number()),
+        }
+    }
+}
+
 pub(crate) fn making(made: Result<(), MakeFault>) -> Answer {
     made?;
     Ok(None)
@@ -43,6 +58,7 @@ pub(crate) fn making(made: Result<(), MakeFault>) -> Answer {
 
 pub(crate) fn answer_to<R: Transfers>(register: &mut R, call: &Call) -> Answer {
     match call {
+        // Never comes, since `main` cuts the table at each making; a type of the other calls alone would be one type more.
         Call::Make(_) => Ok(None),
         Call::Carry(instruction) => {
             carry_out(register, *instruction)?;

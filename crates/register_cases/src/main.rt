@@ -5,9 +5,9 @@ mod answer;
 mod call;
 mod reading;
 
-use crate::answer::{Answer, answer_to, making};
+use crate::answer::{Answer, Told, answer_to, making};
 use crate::call::Call;
-use crate::reading::{index_at, read_call};
+use crate::reading::{index, read_call};
 use day_book::day::DayBook;
 use std::io;
 use std::io::{BufRead, BufReader};
@@ -17,14 +17,7 @@ fn print_answer(rt: &HostRuntime, table: Answer, day: Answer) -> io::Result<()> 
     if table != day {
         return println!(rt; "the makes differ");
     }
-    match table {
-        Ok(None) => println!(rt; "ok"),
-        Ok(Some(number)) => println!(rt; "{number}"),
-        Err(fault) => {
-            let number = fault.number();
-            println!(rt; "refused,{number}")
-        }
-    }
+    println!(rt; "{}", Told(table))
 }
 
 // Makes both registers over these balances, and answers the calls that follow.
@@ -65,9 +58,8 @@ fn main(rt: HostRuntime) -> io::Result<()> {
         let Some((Call::Make(numbers), calls)) = part.split_first() else {
             continue;
         };
-        if let [_, _, balances @ ..] = numbers.as_slice() {
-            let (accounts, assets) = (index_at(numbers, 0), index_at(numbers, 1));
-            run(&rt, accounts, assets, balances, calls)?;
+        if let [accounts, assets, balances @ ..] = numbers.as_slice() {
+            run(&rt, index(*accounts), index(*assets), balances, calls)?;
         }
     }
     Ok(())

@@ -16,11 +16,17 @@ fn number_at(read: &[u64], place: usize) -> u64 {
     read.get(place).copied().unwrap_or(0)
 }
 
-// The account, the asset or the count at a place of the line.
-pub(crate) fn index_at(read: &[u64], place: usize) -> usize {
-    usize::try_from(number_at(read, place)).unwrap_or(usize::MAX)
+// A number as an account, an asset or a count.
+pub(crate) fn index(number: u64) -> usize {
+    usize::try_from(number).unwrap_or(usize::MAX)
 }
 
+// The account, the asset or the count at a place of the line.
+fn index_at(read: &[u64], place: usize) -> usize {
+    index(number_at(read, place))
+}
+
+// Refuses no line, since a table's words and numbers are fixed: what is missing is 0, another word asks an issue.
 pub(crate) fn read_call(heap: Global, line: &str) -> Result<Call, AllocError> {
     let (word, rest) = line.split_once(',').unwrap_or(("", ""));
     let read = numbers(heap, rest)?;

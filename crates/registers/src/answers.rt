@@ -5,18 +5,21 @@ use register::delivery::{Delivery, DeliveryFault, deliver_against_payment};
 use register::fault::MakeFault;
 use register::instruction::Instruction;
 use register::transfers::Transfers;
-use std::io;
+use std::{fmt, io};
 
-// `accepted`, or the number of the refusal.
-fn print_answer(
-    rt: &HostRuntime,
-    make: &str,
-    accepted: &str,
+// An answer as it is printed: a word where it accepts, or the number of the refusal.
+#[derive(Drop)]
+struct Told<'a> {
+    accepted: &'a str,
     answer: Result<(), u8>,
-) -> io::Result<()> {
-    match answer {
-        Ok(()) => println!(rt; "{make},{accepted}"),
-        Err(number) => println!(rt; "{make},refused,{number}"),
+}
+
+impl fmt::Display for Told<'_> {
+    fn fmt<W: fmt::Write>(&self, f: &mut fmt::Formatter<W>) -> fmt::Result {
+        match self.answer {
+            Ok(()) => write!(f, "{}", self.accepted),
+            Err(number) => write!(f, "refused,{number}"),
+        }
     }
 }
 
@@ -25,7 +28,11 @@ pub(crate) fn print_making(
     make: &str,
     answer: Result<(), MakeFault>,
 ) -> io::Result<()> {
-    print_answer(rt, make, "made", answer.map_err(|fault| fault.number()))
+    let told = Told {
+        accepted: "made",
+        answer: answer.map_err(|fault| fault.number()),
+    };
+    println!(rt; "{make},{told}")
 }
 
 pub(crate) fn print_answers<R: Transfers>(
@@ -35,8 +42,11 @@ pub(crate) fn print_answers<R: Transfers>(
     instructions: &[Instruction],
 ) -> io::Result<()> {
     for instruction in instructions {
-        let answer = carry_out(register, *instruction);
-        print_answer(rt, make, "ok", answer.map_err(|fault| fault.number()))?;
+        let told = Told {
+            accepted: "ok",
+            answer: carry_out(register, *instruction).map_err(|fault| fault.number()),
+        };
+        println!(rt; "{make},{told}")?;
     }
     Ok(())
 }
@@ -64,6 +74,7 @@ pub(crate) fn print_memory(rt: &HostRuntime, make: &str, cells: &[u64]) -> io::R
     Ok(())
 }
 
+// Printed by hand: `DeliveryFault` is another crate's, and its refusal has a side, which the answers above have not.
 fn print_refused_delivery(rt: &HostRuntime, fault: DeliveryFault) -> io::Result<()> {
     let (side, fault) = match fault {
         DeliveryFault::Units(fault) => ("units", fault),

@@ -1,10 +1,9 @@
-use Rattle.std.proofs.Common.{◌≡◌, get_or, take, sym, ap, ◌∙◌}
-use Rattle.std.proofs.lemmas.List.{take_all}
+use Rattle.std.proofs.Common.{get_or, sym, ap, ◌∙◌}
 use Rattle.register.specs.declared.instruction.Instruction.{Instruction}
 use Rattle.register.specs.declared.instruction.Instruction.TheVariants.{Credit}
 use Rattle.register.specs.Rules.{Meaning}
 use Rattle.register.specs.Registers.{meaning}
-use Rattle.register.specs.Instructions.{after_instruction, after_all}
+use Rattle.register.specs.Instructions.{after_instruction}
 use Rattle.register.proofs.Alike.{all_more}
 use Rattle.registers.proofs.lending.carry_out_all.Goals as goal
 
