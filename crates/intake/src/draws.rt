@@ -38,10 +38,7 @@ fn draw_made<C: Transfers>(
     ensures goes_on_by_the_rules { (securities : Meaning) → FollowsOnMade state.old state.new lines.now lines.now securities securities (meaning C.Balances cash.old) (meaning C.Balances cash.new) (draw_call agent) result }
     ensures memory_is_kept { C.Balances.lender cash.new ≡ C.Balances.lender cash.old }
 {
-    // By let-else, so that both refusals of this one cause read alike.
-    let Some(&drawn) = state.draws.get(agent) else {
-        return Err(Cause::NothingDue);
-    };
+    let drawn = *state.draws.get(agent).ok_or(Cause::NothingDue)?;
     let amount = debit(&state.book, lines, agent);
     if amount == 0 || drawn != 0 {
         return Err(Cause::NothingDue);

@@ -37,10 +37,7 @@ fn deliver_made<S: Transfers, C: Transfers>(
     ensures goes_on_by_the_rules { FollowsOnMade state.now state.now lines.old lines.new (meaning S.Balances securities.old) (meaning S.Balances securities.new) (meaning C.Balances cash.old) (meaning C.Balances cash.new) (line_call line) result }
     ensures memory_is_kept { (S.Balances.lender securities.new ≡ S.Balances.lender securities.old) × (C.Balances.lender cash.new ≡ C.Balances.lender cash.old) }
 {
-    // By let-else, so that both refusals of this one cause read alike.
-    let Some(place) = place_of(lines, line) else {
-        return Err(Cause::NothingDue);
-    };
+    let place = place_of(lines, line).ok_or(Cause::NothingDue)?;
     let contracts = inside(&lines[place]);
     if contracts == 0 {
         return Err(Cause::NothingDue);
