@@ -67,10 +67,10 @@ const NOBODY: Holder = Holder {
 fn holder_in(book: &Book, row: u16) -> Holder
     ensures { result ≡ holder (contents book.now) row }
 {
-    let Some(place) = usize::from(row).checked_sub(1) else {
-        return NOBODY;
-    };
-    book.holders().get(place).copied().unwrap_or(NOBODY)
+    usize::from(row)
+        .checked_sub(1)
+        .and_then(|place| book.holders().get(place).copied())
+        .unwrap_or(NOBODY)
 }
 
 // The name of the holder in a row.

@@ -5,6 +5,7 @@ ghost use Rattle.std.specs.Prelude.{◌≡◌, ℕ, Bool, true, false, Option};
 ghost use Rattle.order.specs.First.{FirstOpen, first, place_of};
 
 // A record with a total order, in which some records are open.
+// No `Ord`: it must compare all that `==` compares, and alike records need not be equal.
 pub trait Ranked {
     // the first stands at or before the second in the order
     ghost leq: { Self → Self → Bool };

@@ -6,3 +6,4 @@ mod BookBounds
 mod RuleContinued
 mod Outcomes
 pub mod WrittenLines
+pub mod MadePlaces

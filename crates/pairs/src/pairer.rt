@@ -3,6 +3,7 @@ ghost use Rattle.std.specs.Prelude.{◌≡◌, ◌+◌, ◌<◌, ◌≤◌, [], 
 ghost use Rattle.book.specs.Limits.{most_holders, most_member};
 ghost use Rattle.order.specs.First.{first, place_of};
 ghost use Rattle.pairing.specs.Orders.{holder_leq};
+ghost use Rattle.pairing.specs.InWords.{at};
 ghost use Rattle.pairing.specs.Pairing.{paired, unpaired, in_group, in_groups, numbered, all_groups, and_then};
 ghost use Rattle.pairing.proofs.PairRelations.{open_count};
 ghost use Rattle.pairs.specs.Search.{passes, next_pair, Takes, exhaust};
@@ -14,6 +15,7 @@ use book::records::Holder;
 use order::first_open;
 use pairing::pair::{Pair, Unpaired};
 use pairing::stage::{Group, Stage};
+use std::array;
 use std::marker::Model;
 
 // Takes a pair's contracts off both of its holders.
@@ -25,6 +27,15 @@ fn lower_both(holders: &mut [Unpaired], p: Pair)
     holders[p.seller].volume -= p.contracts;
 }
 
+// The holder at a place with all of its contracts unpaired.
+fn unpaired_at(holders: &[Holder], place: usize) -> Unpaired
+    ensures { result ≡ at (map unpaired holders.now) place }
+{
+    holders
+        .get(place)
+        .map_or(Unpaired::default(), |h| Unpaired::from(*h))
+}
+
 // All holders with all of their contracts unpaired, in the first places of a table.
 // The bound on the holders stays a clause here, as in `rows`: a struct of this crate would only carry it to two callers.
 fn unpaired_all(holders: &[Holder]) -> [Unpaired; MOST_HOLDERS]
@@ -32,12 +43,7 @@ fn unpaired_all(holders: &[Holder]) -> [Unpaired; MOST_HOLDERS]
     ensures in_the_first_places { take (length holders.now) result ≡ map unpaired holders.now }
     ensures whole_table { length result ≡ most_holders }
 {
-    let mut table = [Unpaired::default(); MOST_HOLDERS];
-    // by index: of what is written through a zip with `iter_mut` a proof knows nothing
-    for (i, h) in holders.iter().enumerate() {
-        table[i] = Unpaired::from(*h);
-    }
-    table
+    array::from_fn(|i| unpaired_at(holders, i))
 }
 
 // A pairing under way: the pairs made so far, and the holders with what each still has to pair. Its tables have fixed

@@ -1,4 +1,5 @@
 // The words of an expiry: its sessions, its calls and their answers.
+// Each answers 0: a function is only what carries the theorems.
 #![tactic(auto)]
 
 ghost use Rattle.rules.specs.Law.{LawHolds};

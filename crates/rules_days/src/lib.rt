@@ -1,4 +1,5 @@
 // Whole days of calls that a separate program played, and the rules' own play of them.
+// It answers 0: the function is only what carries the theorems.
 #![tactic(auto)]
 
 ghost use Rattle.rules_days.specs.Days.{DaysAgree};

@@ -4,7 +4,8 @@ ghost use Rattle.std.specs.Option.{option_map};
 ghost use Rattle.std.specs.Str.{all_ascii_digits};
 ghost use Rattle.text.specs.Number.{read_on, natural as natural_of, number as number_of, held, limit};
 
-// Past the largest number that any field may have, 10^18: a longer number is held here, and is out of range all the same.
+// One past `MOST` of the rows, the largest number that any field may have: a longer number is held here, and is out of
+// range all the same.
 const LIMIT: u64 = 1_000_000_000_000_000_001;
 
 // The number that the digits write, held at the limit; none where a byte is no digit.
@@ -12,6 +13,7 @@ const LIMIT: u64 = 1_000_000_000_000_000_001;
 fn magnitude(digits: &[u8]) -> Option<u64>
     ensures held_value_of_digits { result ≡ (if all_ascii_digits digits.now then Some (min limit (read_on 0 digits.now)) else None) }
 {
+    // a loop, since `try_fold` would give its closure a contract, and be no plainer
     let mut n: u64 = 0;
     for b in digits {
         if !b.is_ascii_digit() {

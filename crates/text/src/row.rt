@@ -104,6 +104,7 @@ fn numbers_of_row(
 ) -> Result<Vec<i64>, RowError>
     ensures reads_the_row { Answers result (row_of kind.now bounds.now (fields line.now)) }
 {
+    // by `step`, which is proved to give the first field: an iterator's first item could be none
     let (first, _) = step(line, b',');
     if first != kind {
         return Err(RowFault::Form(1).into());
@@ -112,6 +113,7 @@ fn numbers_of_row(
         return Err(RowFault::Form(0).into());
     }
     let values = numbers(heap, line)?;
+    // a match, since an answer of Some is the refusal here: `ok_or` turns it the other way round
     match first_outside(bounds, &values) {
         Some(i) => Err(RowFault::Range(i + 2).into()),
         None => Ok(values),
