@@ -16,7 +16,8 @@ pub fn read_table(rt: &HostRuntime) -> anyhow::Result<Vec<u8>> {
     Ok(bytes)
 }
 
-// What stands after the separator with which `rest` begins.
+// What stands after the separator with which `rest` begins. `book` and `pairing_cases` have one call of the library's for
+// it, which promises no length: shared, it would be no plainer there.
 fn after(rest: &[u8]) -> &[u8]
     ensures one_fewer { length result.now ≡ length rest.now - 1 }
 {

@@ -63,7 +63,7 @@ const NOBODY: Holder = Holder {
     position: 0,
 };
 
-// The holder in a row, from 1.
+// The holder in a row, from 1: one chain of the library's, which a method of the book would only hide.
 fn holder_in(book: &Book, row: u16) -> Holder
     ensures { result ≡ holder (contents book.now) row }
 {

@@ -1,4 +1,4 @@
-// The first three sessions of an expiry, the members' notices, the clearing members' notices and pairing, and what their ends give.
+// The first three sessions of an expiry: the members' notices, the clearing members' notices, and pairing.
 #![tactic(auto)]
 
 pub mod ending;

@@ -13,8 +13,8 @@ use pairs::whole_book::{hand_out, pair};
 use text::cut::step;
 use text::number::number;
 
-// The part of a text up to a separator, and what stands after the separator. `cases` and `book` have a like line of their
-// own: it is no plainer shared.
+// The part of a text up to a separator, and what stands after the separator: two calls of the libraries', no plainer if
+// `cases` and `book` shared them.
 fn cut(s: &[u8], separator: u8) -> (&[u8], &[u8]) {
     let (part, more) = step(s, separator);
     (part, more.get(1..).unwrap_or(more))

@@ -39,7 +39,7 @@ fn less_lines(lot: u32, lines: &[Line], row: u16, asset: u8) -> u32
 }
 
 impl<'a> Lots<'a> {
-    // The lot of the holder at a place for an asset; nothing where there is no record.
+    // The lot of the holder at a place for an asset; nothing where there is no record. No Option: `held` is 0 there.
     fn lot(&self, place: usize, asset: u8) -> u32
         requires { asset < most_assets }
         ensures { result ≡ held self.now.records.now place asset }

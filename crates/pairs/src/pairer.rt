@@ -27,7 +27,7 @@ fn lower_both(holders: &mut [Unpaired], p: Pair)
     holders[p.seller].volume -= p.contracts;
 }
 
-// The holder at a place with all of its contracts unpaired.
+// The holder at a place with all of its contracts unpaired. No Option: past the last one the table has empty holders.
 fn unpaired_at(holders: &[Holder], place: usize) -> Unpaired
     ensures { result ≡ at (map unpaired holders.now) place }
 {
@@ -52,7 +52,7 @@ fn unpaired_all(holders: &[Holder]) -> [Unpaired; MOST_HOLDERS]
 pub(crate) struct Pairer {
     pairs: ArrayVec<Pair, MOST_HOLDERS>,
     // no `ArrayVec`: each search copies them, and a copy of one is a `Result`; with a new one pushed at each search the
-    // program `lines` took 50 to 65 percent more instructions by callgrind than the bar, the figures of docs/pairing.md
+    // program `lines` took 50 to 65 percent more instructions by callgrind than with this array, on the books of docs/pairing.md
     holders: [Unpaired; MOST_HOLDERS],
     count: usize,
 }

@@ -39,7 +39,8 @@ pub(crate) fn has_group(holders: &[Unpaired], group: Group) -> bool
 
 // An open holder of the group on this side. (A side is the flag `buys` that a holder has: an enum would only be turned
 // into that flag again, here and in the rule's definition. Group and side stay two arguments here and below, as the
-// definitions `side_in` and `passes` take them: a pair would be taken apart in each clause. So does the choice.)
+// definitions `side_in` and `passes` take them: a pair would be taken apart in each clause. The choice is a third, for the same
+// reason.)
 fn stands_in(h: &Unpaired, group: Group, buys: bool) -> bool
     ensures { result ≡ side_in group buys h.now }
 {

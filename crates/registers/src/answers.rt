@@ -74,7 +74,7 @@ pub(crate) fn print_memory(rt: &HostRuntime, make: &str, cells: &[u64]) -> io::R
     Ok(())
 }
 
-// Printed by hand: `DeliveryFault` is another crate's, and its refusal has a side, which the answers above have not.
+// Printed by hand: a delivery's refusal has a side, which the answers above have not.
 fn print_refused_delivery(rt: &HostRuntime, fault: DeliveryFault) -> io::Result<()> {
     let (side, fault) = match fault {
         DeliveryFault::Units(fault) => ("units", fault),

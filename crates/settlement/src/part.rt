@@ -18,11 +18,11 @@ use state::state::State;
 use state::table::made;
 
 // The place of a line by its number, which counts from 1.
+// 64 bits both: a `TryFrom` would add a case that never comes.
 fn place_of(lines: &[Line], line: u64) -> Option<usize>
     ensures { Placed (length lines.now) line result }
 {
-    usize::try_from(line)
-        .ok()?
+    (line as usize)
         .checked_sub(1)
         .filter(|&place| place < lines.len())
 }

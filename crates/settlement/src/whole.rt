@@ -22,7 +22,7 @@ use rules::session::Session;
 use state::state::State;
 use state::table::made;
 
-// Whether less is drawn of a holder's agent than its debit.
+// Whether less is drawn of a holder's agent than its debit. No Option: of an agent with no place nothing is drawn.
 fn falls_short(state: &State, lines: &[Line], holder: &Holder) -> bool
     ensures { ValuesFit (contents state.now.book) lines.now holder.now.agent → result ≡ short (contents state.now.book) lines.now state.now.draws holder.now }
 {

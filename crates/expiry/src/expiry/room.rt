@@ -9,7 +9,7 @@ ghost use Rattle.rules.specs.Verdict.{lines_a_holder, first_failed, room, too_sm
 
 use crate::expiry::Expiry;
 use book::book::Book;
-use book::limits::MOST_ASSETS;
+use book::limits::LINES_A_HOLDER;
 use book::records::Holder;
 use delivery::taking::CASH;
 use pairing::line::Line;
@@ -17,10 +17,6 @@ use register::balances::Balances;
 use rules::call::Call;
 use rules::fault::{Cause, Fault, Part};
 use rules::side::Side;
-
-// Pairs are fewer than holders.
-// As many as `pairs` asks a holder: a pair has at most one line for each asset.
-const LINES_A_HOLDER: usize = MOST_ASSETS;
 
 // Whether the table has places for all lines of the book.
 fn has_places(book: &Book, places: usize) -> bool
