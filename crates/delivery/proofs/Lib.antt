@@ -5,7 +5,6 @@ pub mod PaidAgents
 pub mod WideAmounts
 pub mod OpenLines
 pub mod SaturatedSums
-pub mod MadePlaces
 pub mod ClaimSums
 pub mod WholeSides
 pub mod InRange

@@ -25,3 +25,4 @@ pub mod RuleTold
 pub mod RuleToldOnce
 pub mod WorkedCases
 pub mod LinesLawful
+pub mod MadePlaces

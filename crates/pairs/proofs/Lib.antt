@@ -6,4 +6,3 @@ mod BookBounds
 mod RuleContinued
 mod Outcomes
 pub mod WrittenLines
-pub mod MadePlaces

@@ -2,7 +2,7 @@ use Rattle.std.proofs.Common.{◌≡◌, ℕ, ℤ, pos, arith, rules}
 use Rattle.book.specs.Data.{contents}
 use Rattle.pairing.specs.Lines.{sumℤ, claim_on}
 use Rattle.delivery.specs.Sums.{ClaimsFit}
-use Rattle.delivery.proofs.MadePlaces.{made_at}
+use Rattle.pairing.proofs.MadePlaces.{made_at}
 use Rattle.delivery.proofs.sums.claims.Goals as goal
 
 pub returns : goal.returns

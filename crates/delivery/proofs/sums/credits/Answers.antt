@@ -2,7 +2,7 @@ use Rattle.std.proofs.Common.{◌≡◌, ℕ, arith, rules}
 use Rattle.book.specs.Data.{contents}
 use Rattle.delivery.specs.Sums.{ValuesFit}
 use Rattle.delivery.specs.Whole.{net_above}
-use Rattle.delivery.proofs.MadePlaces.{made_at}
+use Rattle.pairing.proofs.MadePlaces.{made_at}
 use Rattle.delivery.proofs.sums.credits.Goals as goal
 
 pub returns : goal.returns

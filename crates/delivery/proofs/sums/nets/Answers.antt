@@ -2,7 +2,7 @@ use Rattle.std.proofs.Common.{◌≡◌, ℕ, ℤ, pos, arith, rules}
 use Rattle.book.specs.Data.{contents}
 use Rattle.pairing.specs.Lines.{net}
 use Rattle.delivery.specs.Sums.{ValuesFit}
-use Rattle.delivery.proofs.MadePlaces.{made_at}
+use Rattle.pairing.proofs.MadePlaces.{made_at}
 use Rattle.delivery.proofs.sums.nets.Goals as goal
 
 pub returns : goal.returns

@@ -4,7 +4,7 @@ use Rattle.pairing.specs.declared.pair.Unpaired.{Unpaired}
 use Rattle.pairing.specs.InWords.{at}
 use Rattle.pairing.specs.Pairing.{unpaired, no_holder}
 use Rattle.pairing.proofs.PairLaws.{rows_length}
-use Rattle.pairs.proofs.MadePlaces.{made_at}
+use Rattle.pairing.proofs.MadePlaces.{made_at}
 use Rattle.pairs.proofs.pairer.unpaired_all.Goals as goal
 
 pub returns-clause-in_the_first_places : goal.returns-clause-in_the_first_places
