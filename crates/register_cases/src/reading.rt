@@ -3,10 +3,20 @@ use crate::call::Call;
 use register::instruction::Instruction;
 use std::alloc::{AllocError, Global};
 
+// The number that a field writes. A table has only digits up to the most of a u64; past that it goes on from 0, and another
+// byte counts as far as it stands from the digit 0, so `parse`, which tells such a field as none, would read it otherwise.
+fn number(field: &str) -> u64 {
+    field.bytes().fold(0u64, |number, byte| {
+        number
+            .wrapping_mul(10)
+            .wrapping_add(u64::from(byte.wrapping_sub(b'0')))
+    })
+}
+
 fn numbers(heap: Global, text: &str) -> Result<Vec<u64>, AllocError> {
     let mut read = Vec::new(heap);
     for field in text.split(',') {
-        read.push(field.parse().unwrap_or(0))?;
+        read.push(number(field))?;
     }
     Ok(read)
 }
@@ -26,7 +36,8 @@ fn index_at(read: &[u64], place: usize) -> usize {
     index(number_at(read, place))
 }
 
-// Refuses no line, since a table's words and numbers are fixed: what is missing is 0, another word asks an issue.
+// Refuses no line, since a table's words and numbers are fixed: what is missing is 0, and another word asks the issue of
+// asset 0, whatever stands after it.
 pub(crate) fn read_call(heap: Global, line: &str) -> Result<Call, AllocError> {
     let (word, rest) = line.split_once(',').unwrap_or(("", ""));
     let read = numbers(heap, rest)?;
@@ -47,8 +58,9 @@ pub(crate) fn read_call(heap: Global, line: &str) -> Result<Call, AllocError> {
             account: index_at(&read, 0),
             asset: index_at(&read, 1),
         },
-        _ => Call::Issue {
+        "issue" => Call::Issue {
             asset: index_at(&read, 0),
         },
+        _ => Call::Issue { asset: 0 },
     })
 }
