@@ -59,11 +59,11 @@ fn signed(n: u64) -> i64
     i64::try_from(n).unwrap_or(i64::MAX)
 }
 
-// The difference of two sums.
+// The difference of two sums. It is cut to the type after subtracting, so that two sums above its most differ as they do.
 fn difference(more: u64, less: u64) -> i64
     ensures { more ≤ most_63 → less ≤ most_63 → result ≡ sub_ℕ more less }
 {
-    signed(more) - signed(less)
+    signed(more.saturating_sub(less)) - signed(less.saturating_sub(more))
 }
 
 // The lines of a book, as an agent's clients buy and sell on them.
