@@ -27,6 +27,14 @@ fn after(rest: &[u8]) -> &[u8]
     }
 }
 
+// The first line of a table, without its line end, and the lines after it.
+pub fn next_line(table: &[u8]) -> (&[u8], &[u8])
+    ensures fewer_bytes_left { 0 < length table.now → length result.1.now < length table.now }
+{
+    let (line, more) = step(table, b'\n');
+    (line, after(more))
+}
+
 // The value of a hexadecimal digit; 0 for any other byte.
 // By hand, since the library's `to_digit` takes upper-case letters too, which are no digits of a table.
 // No Option: a wrong digit shows as a wrong answer to a case.

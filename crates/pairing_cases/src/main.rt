@@ -1,6 +1,8 @@
 // Plays a table of books with notices, one in each line, and prints the lines of each.
 #![tactic(auto)]
 
+ghost use Rattle.std.specs.Prelude.{◌<◌, length};
+
 use book::book::Book;
 use book::limits::{MOST_HOLDERS, MOST_LINES};
 use book::lines::Lines;
@@ -15,7 +17,9 @@ use text::number::number;
 
 // The part of a text up to a separator, and what stands after the separator: two calls of the libraries', no plainer if
 // `cases` and `book` shared them.
-fn cut(s: &[u8], separator: u8) -> (&[u8], &[u8]) {
+fn cut(s: &[u8], separator: u8) -> (&[u8], &[u8])
+    ensures fewer_bytes_left { 0 < length s.now → length result.1.now < length s.now }
+{
     let (part, more) = step(s, separator);
     (part, more.get(1..).unwrap_or(more))
 }
