@@ -50,6 +50,8 @@ impl fmt::Display for Refusal {
     }
 }
 
+impl Error for Refusal {}
+
 impl fmt::Display for ReadFault {
     ghost output = { λ e. Some (read_told e) };
 
