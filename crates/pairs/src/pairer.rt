@@ -54,6 +54,8 @@ pub(crate) struct Pairer {
     // no `ArrayVec`: each search copies them, and a copy of one is a `Result`; with a new one pushed at each search the
     // program `lines` took 50 to 65 percent more instructions by callgrind than with this array, on the books of docs/pairing.md
     holders: [Unpaired; MOST_HOLDERS],
+    // where a search copies them to, as many as there are; it stays from search to search, since a new one is filled to its end
+    standing: [Unpaired; MOST_HOLDERS],
     count: usize,
 }
 
@@ -82,6 +84,7 @@ impl Pairer {
         Pairer {
             pairs: ArrayVec::new(),
             holders: unpaired_all(holders),
+            standing: [Unpaired::default(); MOST_HOLDERS],
             count: holders.len(),
         }
     }
@@ -101,19 +104,23 @@ impl Pairer {
     }
 
     // The place of the holder that stands first for the next pair on one side.
-    fn first_of(&self, group: Group, buys: bool, choice: Choice) -> Option<usize>
-        ensures within { IfSome result (λ b. b < length self.now.1) }
-        ensures value { result ≡ place_of (first holder_leq (passes group buys choice self.now.1) self.now.1) }
+    fn first_of(&mut self, group: Group, buys: bool, choice: Choice) -> Option<usize>
+        ensures pairing_stays { self.new ≡ self.old }
+        ensures within { IfSome result (λ b. b < length self.old.1) }
+        ensures value { result ≡ place_of (first holder_leq (passes group buys choice self.old.1) self.old.1) }
     {
-        let mut table = self.holders;
+        let holders = &self.holders[..self.count];
+        let table = &mut self.standing[..];
         let standing = &mut table[..self.count];
-        mask(standing, self.holders(), group, buys, choice);
+        standing.copy_from_slice(holders);
+        mask(standing, holders, group, buys, choice);
         first_open(standing)
     }
 
     // The next pair of a group.
-    fn next_pair(&self, group: Group, choice: Choice) -> Option<Pair>
-        ensures { result ≡ next_pair choice group self.now.1 }
+    fn next_pair(&mut self, group: Group, choice: Choice) -> Option<Pair>
+        ensures pairing_stays { self.new ≡ self.old }
+        ensures by_the_rule { result ≡ next_pair choice group self.old.1 }
     {
         let buyer = self.first_of(group, true, choice)?;
         let seller = self.first_of(group, false, choice)?;
@@ -147,13 +154,21 @@ impl Pairer {
     }
 
     // The pairs of one group: while some volume stands on both sides, the first buyer and the first seller of the largest such
-    // volume; then the first buyer and the first seller. Most numbers have no holder.
+    // volume; then the first buyer and the first seller.
+    fn pair_members(&mut self, group: Group)
+        ensures { self.new ≡ and_then self.old (in_group group) }
+    {
+        self.repeat_pairs(group, Choice::EqualVolumes);
+        self.repeat_pairs(group, Choice::Firsts);
+    }
+
+    // The same, where a group is gone into only if it has a holder: most numbers have none, and the walk over them has no
+    // more than this test.
     fn pair_group(&mut self, group: Group)
         ensures { self.new ≡ and_then self.old (in_group group) }
     {
         if has_group(self.holders(), group) {
-            self.repeat_pairs(group, Choice::EqualVolumes);
-            self.repeat_pairs(group, Choice::Firsts);
+            self.pair_members(group);
         }
     }
 
@@ -176,7 +191,7 @@ impl Pairer {
         self.pair_stage(Stage::Member, MOST_MEMBER);
         self.pair_stage(Stage::Clearing, MOST_MEMBER);
         self.pair_stage(Stage::Agent, u16::from(MOST_AGENT));
-        self.pair_group(Group {
+        self.pair_members(Group {
             stage: Stage::Whole,
             number: 0,
         });

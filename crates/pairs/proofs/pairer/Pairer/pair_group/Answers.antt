@@ -1,17 +1,10 @@
 use Rattle.std.proofs.Common.{◌≡◌, false, nat_eq, List, ◌++◌, sym, ap, ◌∙◌, subst}
 use Rattle.pairing.specs.declared.pair.Unpaired.{Unpaired}
-use Rattle.pairing.specs.Pairing.{key, Made, and_then}
-use Rattle.pairs.specs.declared.search.Choice.TheVariants.{Firsts}
-use Rattle.pairs.specs.Search.{occurs, next_pair, exhaust}
+use Rattle.pairing.specs.Pairing.{key, Made}
+use Rattle.pairs.specs.Search.{occurs}
 use Rattle.pairs.proofs.SomePass.{any_is}
-use Rattle.pairs.proofs.RuleContinued.{group_then, empty_group, and_then_none}
+use Rattle.pairs.proofs.RuleContinued.{empty_group, and_then_none}
 use Rattle.pairs.proofs.pairer.Pairer.pair_group.Goals as goal
-
-pub returns-then-has_group : goal.returns-then-has_group
-returns-then-has_group c =
-    c.repeat_pairs-then-has_group.ensures
-    ∙ ap (λ (m : Made). and_then m (exhaust (next_pair Firsts c.args.group))) c.repeat_pairs.ensures
-    ∙ group_then c.args.group c.args.self.now
 
 pub returns-else-has_group : goal.returns-else-has_group
 returns-else-has_group c =
