@@ -1,33 +1,25 @@
 // The entries of a day book: how many may wait, and what each does to a balance and to an issue.
-ghost use Rattle.std.specs.Prelude.{◌≡◌, ◌≤◌, sum_by};
+ghost use Rattle.std.specs.Prelude.{◌≡◌, ℕ, ◌+◌, ◌<◌, ◌≤◌, slice_index};
 ghost use Rattle.register.specs.Rules.{most};
-ghost use Rattle.day_book.specs.Entering.{apply, added as added_by};
+ghost use Rattle.table_register.specs.Make.{most_assets};
+ghost use Rattle.day_book.specs.Entering.{apply, added, asset_of};
 
 use register::instruction::Instruction;
+use register::limits::MOST_ASSETS;
 
 // The most entries that wait: one accepted while so many wait posts them all first.
 pub const MOST_ENTRIES: usize = 64;
 
-// What an entry adds to the issue of an asset.
-pub(crate) fn added(entry: Instruction, asset: usize) -> u64
-    ensures { result ≡ added_by entry asset }
+// Raises the issue of its asset by what an entry adds.
+pub(crate) fn raise(issues: &mut [u64; MOST_ASSETS], entry: Instruction)
+    requires known { asset_of entry < most_assets }
+    requires fits { slice_index issues.old (asset_of entry) + added entry (asset_of entry) ≤ most }
+    ensures { (s : ℕ) → slice_index issues.new s ≡ slice_index issues.old s + added entry s }
 {
     match entry {
-        Instruction::Credit {
-            asset: of,
-            amount,
-            ..
-        } if of == asset => amount,
-        _ => 0,
+        Instruction::Credit { asset, amount, .. } => issues[asset] += amount,
+        Instruction::Move { .. } => (),
     }
-}
-
-// What entries add to the issue of an asset together.
-pub(crate) fn added_together(entries: &[Instruction], asset: usize) -> u64
-    requires { sum_by (λ e. added_by e asset) entries.now ≤ most }
-    ensures { result ≡ sum_by (λ e. added_by e asset) entries.now }
-{
-    entries.iter().map(|entry| added(*entry, asset)).sum()
 }
 
 // The balance of an account and asset after an entry, `held` before it.

@@ -7,7 +7,7 @@ ghost use Rattle.day_book.specs.DayTable.{waits, MemoryAfter};
 ghost use Rattle.day_book.specs.DayMeaning.{means, day_lawful};
 
 use crate::day::DayBook;
-use crate::entries::{added_together, applied};
+use crate::entries::{applied, raise};
 use register::balances::Balances;
 use register::checks::{check_credit, check_transfer};
 use register::fault::RegisterFault;
@@ -25,14 +25,6 @@ impl DayBook<'_> {
             balance = applied(*entry, account, asset, balance);
         }
         balance
-    }
-
-    // The posted issue with the credits that wait added.
-    // No sum of them is stored, which would have to agree with the entries: adding takes at most 64 steps in memory.
-    fn issue_with_entries(&self, asset: usize) -> u64
-        ensures { result ≡ (means self.now).issue asset }
-    {
-        self.counts.issue_of(asset) + added_together(&self.entries, asset)
     }
 }
 
@@ -63,8 +55,12 @@ impl Balances for DayBook<'_> {
         self.balance_with_entries(account, asset)
     }
 
+    #[tactic(auto, using(crate::proofs::Turns::no_issue_told))]
     fn issue_of(&self, asset: usize) -> u64 {
-        self.issue_with_entries(asset)
+        if asset >= self.counts.assets {
+            return 0;
+        }
+        self.issues[asset]
     }
 }
 
@@ -82,7 +78,7 @@ impl DayBook<'_> {
         }
     }
 
-    // Keeps an accepted entry.
+    // Keeps an accepted entry; the issue rises with a credit.
     fn enter(&mut self, entry: Instruction)
         requires accepted { instruction_answer (means self.old) entry ≡ Ok tt }
         ensures meaning { means self.new ≡ after_instruction (means self.old) entry }
@@ -91,6 +87,7 @@ impl DayBook<'_> {
         ensures lender { self.new.cells.ghost_name ≡ self.old.cells.ghost_name }
     {
         self.make_room();
+        raise(&mut self.issues, entry);
         self.entries.push(entry);
     }
 }

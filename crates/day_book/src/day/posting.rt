@@ -66,8 +66,8 @@ impl DayBook<'_> {
         ensures posted { Posted (means self.old) self.old.cells.now self.new.cells.now }
         ensures lender { self.new.cells.ghost_name ≡ self.old.cells.ghost_name }
     {
-        let entries = self.entries.take();
-        self.counts = post_in(self.cells, self.counts, &entries);
+        self.counts = post_in(self.cells, self.counts, &self.entries);
+        self.entries.clear();
     }
 
     // Posts what waits, so that the memory alone tells the balances.
