@@ -10,7 +10,7 @@ use Rattle.register.specs.Instructions.{instruction_answer, after_instruction, a
 use Rattle.register.proofs.Meanings.{accepted_none, credit_told, move_told}
 use Rattle.register.proofs.Sums.{at_most_sum}
 use Rattle.register.proofs.Alike.{all_more, all_push}
-use Rattle.register.proofs.Lawfuls.{all_lawful, all_assets}
+use Rattle.register.proofs.Lawfuls.{all_lawful, all_accounts, all_assets}
 use Rattle.day_book.specs.declared.day.DayBook.{DayBook}
 use Rattle.day_book.specs.DayTable.{waits}
 use Rattle.day_book.specs.DayMeaning.{posted_means, means, posted_lawful}
@@ -81,7 +81,13 @@ balance_le m ok a s =
     (λ (h : m.accounts ≤ a). let none = ok.no_account a s h in omega (arith, none))
     (cases_lt a m.accounts)
 
--- the issue of an asset that a day book has not
+-- the balance of an account or asset that a day book has not, and the issue of such an asset
+pub no_account_told : (x : DayBook) (a s : ℕ) → x.counts.accounts ≤ a → (means x).balance a s ≡ 0
+no_account_told x a s h = (all_lawful (posted_means x) (waits x.entries) (posted_lawful x)).no_account a s (let same = all_accounts (posted_means x) (waits x.entries) in omega (arith, same, h))
+
+pub no_asset_told : (x : DayBook) (a s : ℕ) → x.counts.assets ≤ s → (means x).balance a s ≡ 0
+no_asset_told x a s h = (all_lawful (posted_means x) (waits x.entries) (posted_lawful x)).no_asset a s (let same = all_assets (posted_means x) (waits x.entries) in omega (arith, same, h))
+
 pub no_issue_told : (x : DayBook) (s : ℕ) → x.counts.assets ≤ s → (means x).issue s ≡ 0
 no_issue_told x s h = (all_lawful (posted_means x) (waits x.entries) (posted_lawful x)).no_issue s (let same = all_assets (posted_means x) (waits x.entries) in omega (arith, same, h))
 

@@ -22,29 +22,22 @@ pub(crate) fn raise(issues: &mut [u64; MOST_ASSETS], entry: Instruction)
     }
 }
 
-// The balance of an account and asset after an entry, `held` before it.
+// The balance of an account and asset after an entry, `held` before it. The asset is compared first, so that an entry of
+// another one costs no more than that.
 pub(crate) fn applied(entry: Instruction, account: usize, asset: usize, held: u64) -> u64
     requires { apply entry account asset held ≤ most }
     ensures { result ≡ apply entry account asset held }
 {
     match entry {
+        Instruction::Credit { asset: of, .. } | Instruction::Move { asset: of, .. }
+            if of != asset => held,
         Instruction::Credit {
             account: to,
-            asset: of,
-            amount,
-        } if (to, of) == (account, asset) => held + amount,
-        Instruction::Move {
-            giver,
-            asset: of,
             amount,
             ..
-        } if (giver, of) == (account, asset) => held.saturating_sub(amount),
-        Instruction::Move {
-            taker,
-            asset: of,
-            amount,
-            ..
-        } if (taker, of) == (account, asset) => held + amount,
+        } if to == account => held + amount,
+        Instruction::Move { giver, amount, .. } if giver == account => held.saturating_sub(amount),
+        Instruction::Move { taker, amount, .. } if taker == account => held + amount,
         _ => held,
     }
 }

@@ -51,7 +51,12 @@ impl Balances for DayBook<'_> {
         self.counts.assets
     }
 
+    #[tactic(auto, using(crate::proofs::Turns::no_account_told, crate::proofs::Turns::no_asset_told))]
     fn balance_of(&self, account: usize, asset: usize) -> u64 {
+        // No entry is of an unknown account or asset, so none has to be gone over.
+        if account >= self.counts.accounts || asset >= self.counts.assets {
+            return 0;
+        }
         self.balance_with_entries(account, asset)
     }
 
