@@ -3,11 +3,16 @@ use Rattle.std.specs.Prelude.{◌≡◌, ℕ, ◌*◌, ◌≤◌, Bool, true, fa
 use Rattle.arrayvec.specs.ArrayVec.{ArrayVec}
 use Rattle.register.specs.declared.instruction.Instruction.{Instruction}
 use Rattle.register.specs.Rules.{Meaning}
-use Rattle.table_register.specs.Table.{cell}
+use Rattle.table_register.specs.declared.counts.Counts.{Counts}
+use Rattle.table_register.specs.Table.{cell, table_meaning}
 
 -- What waits, the oldest first.
 abbrev pub waits : ArrayVec Instruction → List Instruction
 waits entries = entries.items
+
+-- What memory means as a table of these counts.
+abbrev pub posted_in : List ℕ → Counts → Meaning
+posted_in cells counts = table_meaning cells counts.accounts counts.assets counts.issues
 
 -- Memory of the same size whose places from one on are as they were.
 pub record LaterPlacesStay (first : ℕ) (cells cells' : List ℕ) : Type 0 where

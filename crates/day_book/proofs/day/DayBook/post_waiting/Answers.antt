@@ -13,8 +13,8 @@ use Rattle.day_book.proofs.day.DayBook.post_waiting.Goals as goal
 pub invariant_of-self : goal.invariant_of-self
 invariant_of-self c =
     let x = c.args.self.now in
-    let to = c.post_in-self in
-    let k = to.result in
+    let to = c.post_each in
+    let k = to.new.counts in
     let m : Meaning = table_meaning to.new.cells k.accounts k.assets k.issues in
     let same : m ≡ means x = to.ensures.meaning ∙ ap (after_all (posted_means x)) c.deref.ensures.0 in
     let assets : k.assets ≡ x.counts.assets = ap (λ (n : Meaning). n.assets) same ∙ all_assets (posted_means x) x.entries.items in
@@ -28,6 +28,7 @@ invariant_of-self c =
 pub returns-clause-posted : goal.returns-clause-posted
 returns-clause-posted c =
     let x = c.args.self.now in
-    let to = c.post_in-self in
-    let all = posted_all x.cells.now to.new.cells to.result.accounts to.result.assets to.result.issues (posted_means x) c.deref.result.now to.ensures.meaning to.ensures.later in
+    let to = c.post_each in
+    let k = to.new.counts in
+    let all = posted_all x.cells.now to.new.cells k.accounts k.assets k.issues (posted_means x) c.deref.result.now to.ensures.meaning to.ensures.later in
     subst (λ (es : List Instruction). Posted (after_all (posted_means x) es) x.cells.now to.new.cells) c.deref.ensures.0 all
