@@ -1,30 +1,23 @@
 -- Entries, each accepted in its turn. Assumes nothing.
-use Rattle.std.proofs.Common.{◌≡◌, ℕ, zero, suc, ◌+◌, ◌<◌, ◌≤◌, true, List, [], ◌∷◌, ◌++◌, length, get_or, take, Ok, Err, sym, refl, ap, ◌∙◌, ⊎_elim, arith}
+use Rattle.std.proofs.Common.{◌≡◌, ℕ, zero, suc, ◌+◌, ◌<◌, ◌≤◌, true, List, [], ◌∷◌, ◌++◌, length, get_or, take, Ok, sym, refl, ap, ◌∙◌, ⊎_elim, arith}
 use Rattle.std.specs.Prelude.{is_ok}
 use Rattle.std.proofs.lemmas.Bool.{and_parts, and_from, cases_lt}
 use Rattle.std.proofs.lemmas.Bool.Decides.{nat_tests}
 use Rattle.register.specs.declared.instruction.Instruction.{Instruction}
 use Rattle.register.specs.declared.instruction.Instruction.TheVariants.{Credit, Move}
-use Rattle.register.specs.Rules.{most, Meaning, Lawful, Answer, unless_refused, credit_refused, transfer_refused, with_credit, with_move}
+use Rattle.register.specs.Rules.{most, Meaning, Lawful, unless_refused, credit_refused, transfer_refused, with_credit, with_move}
 use Rattle.register.specs.Instructions.{instruction_answer, after_instruction, after_all}
 use Rattle.register.proofs.Meanings.{accepted_none, credit_told, move_told}
 use Rattle.register.proofs.Sums.{at_most_sum}
 use Rattle.register.proofs.Alike.{all_more, all_push}
-use Rattle.register.proofs.Lawfuls.{all_lawful, all_accounts, all_assets}
+use Rattle.register.proofs.Lawfuls.{all_lawful, all_assets}
 use Rattle.day_book.specs.declared.day.DayBook.{DayBook}
 use Rattle.day_book.specs.DayTable.{waits}
+use Rattle.day_book.specs.DayLawful.{accepts, step_balance, carried_lawful}
 use Rattle.day_book.specs.DayMeaning.{posted_means, means, posted_lawful}
 use Rattle.day_book.specs.Entering.{apply, added, asset_of, each_accepted}
 
-accepts : (r : Answer) → is_ok r ≡ true → r ≡ Ok tt
-accepts (Ok _) e = refl
-accepts (Err _) e = let z : ◌≡◌ {A = ℕ} 0 1 = cc in absurd (omega arith)
-
--- what an accepted entry does to a balance and to an issue
-pub step_balance : (m : Meaning) (e : Instruction) → instruction_answer m e ≡ Ok tt → (a s : ℕ) → (after_instruction m e).balance a s ≡ apply e a s (m.balance a s)
-step_balance m (Credit to of amount) ok a s = ap (λ r. (unless_refused r (with_credit m to of amount) m).balance a s) (accepted_none (credit_refused m to of amount) (sym ok))
-step_balance m (Move giver taker of amount) ok a s = ap (λ r. (unless_refused r (with_move m giver taker of amount) m).balance a s) (accepted_none (transfer_refused m giver taker of amount) (sym ok))
-
+-- what an accepted entry does to an issue
 pub step_issue : (m : Meaning) (e : Instruction) → instruction_answer m e ≡ Ok tt → (s : ℕ) → (after_instruction m e).issue s ≡ m.issue s + added e s
 step_issue m (Credit to of amount) ok s =
     let raised : (with_credit m to of amount).issue s ≡ m.issue s + added (Credit to of amount) s = grind (arith, nat_tests) in
@@ -81,16 +74,6 @@ balance_le m ok a s =
     (λ (h : m.accounts ≤ a). let none = ok.no_account a s h in omega (arith, none))
     (cases_lt a m.accounts)
 
--- the balance of an account or asset that a day book has not, and the issue of such an asset
-pub no_account_told : (x : DayBook) (a s : ℕ) → x.counts.accounts ≤ a → (means x).balance a s ≡ 0
-no_account_told x a s h = (all_lawful (posted_means x) (waits x.entries) (posted_lawful x)).no_account a s (let same = all_accounts (posted_means x) (waits x.entries) in omega (arith, same, h))
-
-pub no_asset_told : (x : DayBook) (a s : ℕ) → x.counts.assets ≤ s → (means x).balance a s ≡ 0
-no_asset_told x a s h = (all_lawful (posted_means x) (waits x.entries) (posted_lawful x)).no_asset a s (let same = all_assets (posted_means x) (waits x.entries) in omega (arith, same, h))
-
-pub no_issue_told : (x : DayBook) (s : ℕ) → x.counts.assets ≤ s → (means x).issue s ≡ 0
-no_issue_told x s h = (all_lawful (posted_means x) (waits x.entries) (posted_lawful x)).no_issue s (let same = all_assets (posted_means x) (waits x.entries) in omega (arith, same, h))
-
 -- an entry that a day book accepts: its asset is below the most, and so is the issue that it leaves
 module _ (x : DayBook) (e : Instruction) (ok : instruction_answer (means x) e ≡ Ok tt) where
   pub asset_below : asset_of e < x.counts.assets
@@ -98,7 +81,7 @@ module _ (x : DayBook) (e : Instruction) (ok : instruction_answer (means x) e �
 
   pub raised_fits : get_or x.issues (asset_of e) 0 + added e (asset_of e) ≤ most
   raised_fits =
-      let fits = accepted_fits (means x) e (all_lawful (posted_means x) (waits x.entries) (posted_lawful x)) ok in
+      let fits = accepted_fits (means x) e (carried_lawful x) ok in
       let told = x.told (asset_of e) asset_below in
       omega (arith, fits, told)
 

@@ -30,6 +30,11 @@ abbrev pub added : Instruction → ℕ → ℕ
 added (Credit to of amount) asset = cond (asset == of) amount 0
 added (Move giver taker of amount) asset = 0
 
+-- The balance after all entries, the oldest first.
+abbrev pub apply_all : List Instruction → ℕ → ℕ → ℕ → ℕ
+apply_all [] account asset held = held
+apply_all (e ∷ es) account asset held = apply_all es account asset (apply e account asset held)
+
 -- A register of this meaning accepts each entry in its turn.
 abbrev pub each_accepted : Meaning → List Instruction → Bool
 each_accepted m [] = true

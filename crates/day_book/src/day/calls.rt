@@ -4,7 +4,8 @@ ghost use Rattle.register.specs.Rules.{credit_refused, transfer_refused, credit_
 ghost use Rattle.register.specs.Instructions.{instruction_answer, after_instruction};
 ghost use Rattle.day_book.specs.Entering.{most_entries, a_credit, a_move, full, with_entry, entries_after, posts};
 ghost use Rattle.day_book.specs.DayTable.{waits, MemoryAfter};
-ghost use Rattle.day_book.specs.DayMeaning.{means, day_lawful};
+ghost use Rattle.day_book.specs.DayMeaning.{means};
+ghost use Rattle.day_book.specs.DayLawful.{day_book_lawful};
 
 use crate::day::DayBook;
 use crate::entries::{applied, raise};
@@ -37,7 +38,7 @@ impl Balances for DayBook<'_> {
 
     ghost issue = { λ x. (means x).issue };
 
-    ghost lawful = { day_lawful };
+    ghost lawful = { day_book_lawful };
 
     ghost lender = { λ x. x.cells.ghost_name };
 
@@ -51,7 +52,7 @@ impl Balances for DayBook<'_> {
         self.counts.assets
     }
 
-    #[tactic(auto, using(crate::proofs::Turns::no_account_told, crate::proofs::Turns::no_asset_told))]
+    #[tactic(auto, using(crate::specs::DayLawful::no_account_told, crate::specs::DayLawful::no_asset_told))]
     fn balance_of(&self, account: usize, asset: usize) -> u64 {
         // No entry is of an unknown account or asset, so none has to be gone over.
         if account >= self.counts.accounts || asset >= self.counts.assets {
@@ -60,7 +61,7 @@ impl Balances for DayBook<'_> {
         self.balance_with_entries(account, asset)
     }
 
-    #[tactic(auto, using(crate::proofs::Turns::no_issue_told))]
+    #[tactic(auto, using(crate::specs::DayLawful::no_issue_told))]
     fn issue_of(&self, asset: usize) -> u64 {
         if asset >= self.counts.assets {
             return 0;
