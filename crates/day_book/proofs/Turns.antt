@@ -1,32 +1,23 @@
 -- Entries, each accepted in its turn. Assumes nothing.
-use Rattle.std.proofs.Common.{◌≡◌, ℕ, zero, suc, ◌+◌, ◌<◌, ◌≤◌, true, List, [], ◌∷◌, ◌++◌, length, get_or, take, Ok, Err, sym, refl, ap, ◌∙◌, ⊎_elim, arith}
+use Rattle.std.proofs.Common.{◌≡◌, ℕ, zero, suc, ◌+◌, ◌<◌, ◌≤◌, true, List, [], ◌∷◌, ◌++◌, length, get_or, take, Ok, sym, refl, ap, ◌∙◌, ⊎_elim, arith}
 use Rattle.std.specs.Prelude.{is_ok}
-use Rattle.std.specs.List.{sum_by}
-use Rattle.std.proofs.lemmas.List.Sums.{sum_by-cons}
 use Rattle.std.proofs.lemmas.Bool.{and_parts, and_from, cases_lt}
 use Rattle.std.proofs.lemmas.Bool.Decides.{nat_tests}
 use Rattle.register.specs.declared.instruction.Instruction.{Instruction}
 use Rattle.register.specs.declared.instruction.Instruction.TheVariants.{Credit, Move}
-use Rattle.register.specs.Rules.{most, Meaning, Lawful, Answer, unless_refused, credit_refused, transfer_refused, with_credit, with_move}
+use Rattle.register.specs.Rules.{most, Meaning, Lawful, unless_refused, credit_refused, transfer_refused, with_credit, with_move}
 use Rattle.register.specs.Instructions.{instruction_answer, after_instruction, after_all}
 use Rattle.register.proofs.Meanings.{accepted_none, credit_told, move_told}
 use Rattle.register.proofs.Sums.{at_most_sum}
-use Rattle.register.proofs.Alike.{all_more}
-use Rattle.register.proofs.Lawfuls.{all_lawful}
+use Rattle.register.proofs.Alike.{all_more, all_push}
+use Rattle.register.proofs.Lawfuls.{all_lawful, all_assets}
 use Rattle.day_book.specs.declared.day.DayBook.{DayBook}
 use Rattle.day_book.specs.DayTable.{waits}
+use Rattle.day_book.specs.DayLawful.{accepts, step_balance, carried_lawful}
 use Rattle.day_book.specs.DayMeaning.{posted_means, means, posted_lawful}
-use Rattle.day_book.specs.Entering.{apply, added, each_accepted}
+use Rattle.day_book.specs.Entering.{apply, added, asset_of, each_accepted}
 
-accepts : (r : Answer) → is_ok r ≡ true → r ≡ Ok tt
-accepts (Ok _) e = refl
-accepts (Err _) e = let z : ◌≡◌ {A = ℕ} 0 1 = cc in absurd (omega arith)
-
--- what an accepted entry does to a balance and to an issue
-pub step_balance : (m : Meaning) (e : Instruction) → instruction_answer m e ≡ Ok tt → (a s : ℕ) → (after_instruction m e).balance a s ≡ apply e a s (m.balance a s)
-step_balance m (Credit to of amount) ok a s = ap (λ r. (unless_refused r (with_credit m to of amount) m).balance a s) (accepted_none (credit_refused m to of amount) (sym ok))
-step_balance m (Move giver taker of amount) ok a s = ap (λ r. (unless_refused r (with_move m giver taker of amount) m).balance a s) (accepted_none (transfer_refused m giver taker of amount) (sym ok))
-
+-- what an accepted entry does to an issue
 pub step_issue : (m : Meaning) (e : Instruction) → instruction_answer m e ≡ Ok tt → (s : ℕ) → (after_instruction m e).issue s ≡ m.issue s + added e s
 step_issue m (Credit to of amount) ok s =
     let raised : (with_credit m to of amount).issue s ≡ m.issue s + added (Credit to of amount) s = grind (arith, nat_tests) in
@@ -35,15 +26,20 @@ step_issue m (Move giver taker of amount) ok s =
     let same : m.issue s ≡ m.issue s + 0 = omega arith in
     ap (λ r. (unless_refused r (with_move m giver taker of amount) m).issue s) (accepted_none (transfer_refused m giver taker of amount) (sym ok)) ∙ same
 
--- what all of them add to an issue
-pub all_issue : (m : Meaning) (es : List Instruction) → each_accepted m es ≡ true → (s : ℕ) → (after_all m es).issue s ≡ m.issue s + sum_by (λ e. added e s) es
-all_issue m [] fit s = omega arith
-all_issue m (e ∷ es) fit s =
-    let parts = and_parts (is_ok (instruction_answer m e)) (each_accepted (after_instruction m e) es) fit in
-    let one = step_issue m e (accepts (instruction_answer m e) parts.0) s in
-    let rest = all_issue (after_instruction m e) es parts.1 s in
-    let sums = sum_by-cons (λ k. added k s) e es in
-    omega (arith, one, rest, sums)
+-- what one accepted after the others adds to an issue
+pub pushed_issue : (m : Meaning) (es : List Instruction) (e : Instruction) → instruction_answer (after_all m es) e ≡ Ok tt → (s : ℕ) → (after_all m (es ++ e ∷ [])).issue s ≡ (after_all m es).issue s + added e s
+pushed_issue m es e ok s = ap (λ (k : Meaning). k.issue s) (all_push m es e) ∙ step_issue (after_all m es) e ok s
+
+-- the asset of an accepted entry is known, and its issue stays within the most
+pub accepted_asset : (m : Meaning) (e : Instruction) → instruction_answer m e ≡ Ok tt → asset_of e < m.assets
+accepted_asset m (Credit to of amount) ok = (credit_told m to of amount (accepted_none _ (sym ok))).asset_known
+accepted_asset m (Move giver taker of amount) ok = (move_told m giver taker of amount (accepted_none _ (sym ok))).asset_known
+
+pub accepted_fits : (m : Meaning) (e : Instruction) → Lawful m → instruction_answer m e ≡ Ok tt → m.issue (asset_of e) + added e (asset_of e) ≤ most
+accepted_fits m (Credit to of amount) ok accepted =
+    let told = (credit_told m to of amount (accepted_none _ (sym accepted))).fits in
+    grind (arith, nat_tests, told)
+accepted_fits m (Move giver taker of amount) ok accepted = let le = ok.bounded of in omega (arith, le)
 
 -- the entry at a place is accepted after those before it
 pub in_turn : (m : Meaning) (es : List Instruction) (i : ℕ) (d : Instruction) → each_accepted m es ≡ true → i < length es → instruction_answer (after_all m (take i es)) (get_or es i d) ≡ Ok tt
@@ -78,13 +74,16 @@ balance_le m ok a s =
     (λ (h : m.accounts ≤ a). let none = ok.no_account a s h in omega (arith, none))
     (cases_lt a m.accounts)
 
--- the issue of a day book: the posted one and what the entries that wait add
-module _ (x : DayBook) (es : List Instruction) (all : es ≡ waits x.entries) (s : ℕ) where
-  pub issue_told : (means x).issue s ≡ (posted_means x).issue s + sum_by (λ e. added e s) es
-  issue_told = all_issue (posted_means x) (waits x.entries) x.accepted s ∙ ap (λ k. (posted_means x).issue s + sum_by (λ e. added e s) k) (sym all)
+-- an entry that a day book accepts: its asset is below the most, and so is the issue that it leaves
+module _ (x : DayBook) (e : Instruction) (ok : instruction_answer (means x) e ≡ Ok tt) where
+  pub asset_below : asset_of e < x.counts.assets
+  asset_below = let known = accepted_asset (means x) e ok in let same = all_assets (posted_means x) (waits x.entries) in omega (arith, known, same)
 
-  pub issue_fits : (posted_means x).issue s + sum_by (λ e. added e s) es ≤ most
-  issue_fits = let le = (all_lawful (posted_means x) (waits x.entries) (posted_lawful x)).bounded s in omega (arith, le, issue_told)
+  pub raised_fits : get_or x.issues (asset_of e) 0 + added e (asset_of e) ≤ most
+  raised_fits =
+      let fits = accepted_fits (means x) e (carried_lawful x) ok in
+      let told = x.told (asset_of e) asset_below in
+      omega (arith, fits, told)
 
 -- the step from the entries of a day book before a place to those up to it
 module _ (x : DayBook) (es : List Instruction) (all : es ≡ waits x.entries) (i : ℕ) (h : i < length es) where

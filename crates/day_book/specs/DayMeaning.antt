@@ -1,7 +1,6 @@
 -- What a day book means.
 use Rattle.register.specs.Rules.{Meaning, Lawful}
 use Rattle.register.specs.Instructions.{after_all}
-use Rattle.register.proofs.Lawfuls.{all_lawful}
 use Rattle.table_register.specs.Lawful.{table_lawful}
 use Rattle.table_register.specs.Table.{table_meaning}
 use Rattle.day_book.specs.declared.day.DayBook.{DayBook}
@@ -15,9 +14,6 @@ posted_means x = table_meaning x.cells.now x.counts.accounts x.counts.assets x.c
 abbrev pub means : DayBook → Meaning
 means x = after_all (posted_means x) (waits x.entries)
 
--- The register of the posted balances is lawful, so a day book is.
+-- The register of the posted balances is lawful.
 pub posted_lawful : (x : DayBook) → Lawful (posted_means x)
 posted_lawful x = table_lawful x.cells.now x.counts.accounts x.counts.assets x.counts.issues x.covered x.counts.bounded
-
-pub day_lawful : (x : DayBook) → Lawful (means x)
-day_lawful x = all_lawful (posted_means x) (waits x.entries) (posted_lawful x)

@@ -20,10 +20,20 @@ abbrev pub apply : Instruction → ℕ → ℕ → ℕ → ℕ
 apply (Credit to of amount) account asset held = credited (λ a s. held) to of amount account asset
 apply (Move giver taker of amount) account asset held = moved (λ a s. held) giver taker of amount account asset
 
+-- The asset of an entry.
+abbrev pub asset_of : Instruction → ℕ
+asset_of (Credit to of amount) = of
+asset_of (Move giver taker of amount) = of
+
 -- What an entry adds to the issue of an asset.
 abbrev pub added : Instruction → ℕ → ℕ
 added (Credit to of amount) asset = cond (asset == of) amount 0
 added (Move giver taker of amount) asset = 0
+
+-- The balance after all entries, the oldest first.
+abbrev pub apply_all : List Instruction → ℕ → ℕ → ℕ → ℕ
+apply_all [] account asset held = held
+apply_all (e ∷ es) account asset held = apply_all es account asset (apply e account asset held)
 
 -- A register of this meaning accepts each entry in its turn.
 abbrev pub each_accepted : Meaning → List Instruction → Bool

@@ -1,3 +1,4 @@
 pub mod Entering
 pub mod DayTable
 pub mod DayMeaning
+pub mod DayLawful

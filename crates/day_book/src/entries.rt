@@ -1,58 +1,43 @@
 // The entries of a day book: how many may wait, and what each does to a balance and to an issue.
-ghost use Rattle.std.specs.Prelude.{◌≡◌, ◌≤◌, sum_by};
+ghost use Rattle.std.specs.Prelude.{◌≡◌, ℕ, ◌+◌, ◌<◌, ◌≤◌, slice_index};
 ghost use Rattle.register.specs.Rules.{most};
-ghost use Rattle.day_book.specs.Entering.{apply, added as added_by};
+ghost use Rattle.table_register.specs.Make.{most_assets};
+ghost use Rattle.day_book.specs.Entering.{apply, added, asset_of};
 
 use register::instruction::Instruction;
+use register::limits::MOST_ASSETS;
 
 // The most entries that wait: one accepted while so many wait posts them all first.
 pub const MOST_ENTRIES: usize = 64;
 
-// What an entry adds to the issue of an asset.
-pub(crate) fn added(entry: Instruction, asset: usize) -> u64
-    ensures { result ≡ added_by entry asset }
+// Raises the issue of its asset by what an entry adds.
+pub(crate) fn raise(issues: &mut [u64; MOST_ASSETS], entry: Instruction)
+    requires known { asset_of entry < most_assets }
+    requires fits { slice_index issues.old (asset_of entry) + added entry (asset_of entry) ≤ most }
+    ensures { (s : ℕ) → slice_index issues.new s ≡ slice_index issues.old s + added entry s }
 {
     match entry {
-        Instruction::Credit {
-            asset: of,
-            amount,
-            ..
-        } if of == asset => amount,
-        _ => 0,
+        Instruction::Credit { asset, amount, .. } => issues[asset] += amount,
+        Instruction::Move { .. } => (),
     }
 }
 
-// What entries add to the issue of an asset together.
-pub(crate) fn added_together(entries: &[Instruction], asset: usize) -> u64
-    requires { sum_by (λ e. added_by e asset) entries.now ≤ most }
-    ensures { result ≡ sum_by (λ e. added_by e asset) entries.now }
-{
-    entries.iter().map(|entry| added(*entry, asset)).sum()
-}
-
-// The balance of an account and asset after an entry, `held` before it.
+// The balance of an account and asset after an entry, `held` before it. The asset is compared first, so that an entry of
+// another one costs no more than that.
 pub(crate) fn applied(entry: Instruction, account: usize, asset: usize, held: u64) -> u64
     requires { apply entry account asset held ≤ most }
     ensures { result ≡ apply entry account asset held }
 {
     match entry {
+        Instruction::Credit { asset: of, .. } | Instruction::Move { asset: of, .. }
+            if of != asset => held,
         Instruction::Credit {
             account: to,
-            asset: of,
-            amount,
-        } if (to, of) == (account, asset) => held + amount,
-        Instruction::Move {
-            giver,
-            asset: of,
             amount,
             ..
-        } if (giver, of) == (account, asset) => held.saturating_sub(amount),
-        Instruction::Move {
-            taker,
-            asset: of,
-            amount,
-            ..
-        } if (taker, of) == (account, asset) => held + amount,
+        } if to == account => held + amount,
+        Instruction::Move { giver, amount, .. } if giver == account => held.saturating_sub(amount),
+        Instruction::Move { taker, amount, .. } if taker == account => held + amount,
         _ => held,
     }
 }

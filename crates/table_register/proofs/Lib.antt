@@ -1,4 +1,5 @@
 pub mod Overs
 pub mod Tables
+pub mod Enters
 pub mod Makes
 pub mod Rows

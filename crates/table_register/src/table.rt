@@ -9,8 +9,8 @@ pub mod making;
 
 #[derive(Drop)]
 pub struct TableRegister<'a> {
-    pub cells: &'a mut [u64],
-    pub counts: Counts,
+    cells: &'a mut [u64],
+    counts: Counts,
     ghost size: { counts.accounts * counts.assets ≤ length cells.now },
     ghost covered: { Covered cells.now counts.accounts counts.assets counts.issues },
 }

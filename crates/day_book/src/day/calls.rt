@@ -4,10 +4,11 @@ ghost use Rattle.register.specs.Rules.{credit_refused, transfer_refused, credit_
 ghost use Rattle.register.specs.Instructions.{instruction_answer, after_instruction};
 ghost use Rattle.day_book.specs.Entering.{most_entries, a_credit, a_move, full, with_entry, entries_after, posts};
 ghost use Rattle.day_book.specs.DayTable.{waits, MemoryAfter};
-ghost use Rattle.day_book.specs.DayMeaning.{means, day_lawful};
+ghost use Rattle.day_book.specs.DayMeaning.{means};
+ghost use Rattle.day_book.specs.DayLawful.{day_book_lawful};
 
 use crate::day::DayBook;
-use crate::entries::{added_together, applied};
+use crate::entries::{applied, raise};
 use register::balances::Balances;
 use register::checks::{check_credit, check_transfer};
 use register::fault::RegisterFault;
@@ -26,14 +27,6 @@ impl DayBook<'_> {
         }
         balance
     }
-
-    // The posted issue with the credits that wait added.
-    // No sum of them is stored, which would have to agree with the entries: adding takes at most 64 steps in memory.
-    fn issue_with_entries(&self, asset: usize) -> u64
-        ensures { result ≡ (means self.now).issue asset }
-    {
-        self.counts.issue_of(asset) + added_together(&self.entries, asset)
-    }
 }
 
 impl Balances for DayBook<'_> {
@@ -45,7 +38,7 @@ impl Balances for DayBook<'_> {
 
     ghost issue = { λ x. (means x).issue };
 
-    ghost lawful = { day_lawful };
+    ghost lawful = { day_book_lawful };
 
     ghost lender = { λ x. x.cells.ghost_name };
 
@@ -59,12 +52,21 @@ impl Balances for DayBook<'_> {
         self.counts.assets
     }
 
+    #[tactic(auto, using(crate::specs::DayLawful::no_account_told, crate::specs::DayLawful::no_asset_told))]
     fn balance_of(&self, account: usize, asset: usize) -> u64 {
+        // No entry is of an unknown account or asset, so none has to be gone over.
+        if account >= self.counts.accounts || asset >= self.counts.assets {
+            return 0;
+        }
         self.balance_with_entries(account, asset)
     }
 
+    #[tactic(auto, using(crate::specs::DayLawful::no_issue_told))]
     fn issue_of(&self, asset: usize) -> u64 {
-        self.issue_with_entries(asset)
+        if asset >= self.counts.assets {
+            return 0;
+        }
+        self.issues[asset]
     }
 }
 
@@ -82,7 +84,7 @@ impl DayBook<'_> {
         }
     }
 
-    // Keeps an accepted entry.
+    // Keeps an accepted entry; the issue rises with a credit.
     fn enter(&mut self, entry: Instruction)
         requires accepted { instruction_answer (means self.old) entry ≡ Ok tt }
         ensures meaning { means self.new ≡ after_instruction (means self.old) entry }
@@ -91,6 +93,7 @@ impl DayBook<'_> {
         ensures lender { self.new.cells.ghost_name ≡ self.old.cells.ghost_name }
     {
         self.make_room();
+        raise(&mut self.issues, entry);
         self.entries.push(entry);
     }
 }

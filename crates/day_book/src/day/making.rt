@@ -9,6 +9,7 @@ ghost use Rattle.day_book.specs.DayMeaning.{means};
 use crate::day::DayBook;
 use arrayvec::ArrayVec;
 use register::fault::MakeFault;
+use register::limits::MOST_ASSETS;
 use table_register::counts::Counts;
 
 impl<'a> DayBook<'a> {
@@ -22,6 +23,7 @@ impl<'a> DayBook<'a> {
         DayBook {
             cells,
             counts: Counts::none(),
+            issues: [0; MOST_ASSETS],
             entries: ArrayVec::new(),
         }
     }
@@ -45,7 +47,9 @@ impl DayBook<'_> {
         ensures memory { self.new.cells.now ≡ self.old.cells.now }
         ensures lender { self.new.cells.ghost_name ≡ self.old.cells.ghost_name }
     {
+        let issues = counts.issues;
         self.counts = counts;
+        self.issues = issues;
     }
 
     // Lays the memory out as a table of these counts: its balances are those that stand there.

@@ -1,62 +1,102 @@
-// Posting: the entries that wait are carried out in the register of the posted balances, the oldest first.
-ghost use Rattle.std.specs.Prelude.{◌≡◌, ◌*◌, ◌≤◌, [], length};
-ghost use Rattle.register.specs.Instructions.{after_instruction, after_all};
-ghost use Rattle.table_register.specs.Table.{Covered, table_meaning};
-ghost use Rattle.table_register.specs.TableMeaning.{means as posted_means};
-ghost use Rattle.day_book.specs.DayTable.{waits, LaterPlacesStay, Posted};
+// Posting: the entries that wait are written to the memory, the oldest first.
+// No `TableRegister` is made over the memory for it: that has its fields to itself, so that only its own calls change it.
+ghost use Rattle.std.specs.Prelude.{◌≡◌, ◌+◌, ◌*◌, ◌<◌, ◌≤◌, true, [], length, None, Ok};
+ghost use Rattle.register.specs.Rules.{credit_refused, transfer_refused, with_credit, with_move};
+ghost use Rattle.register.specs.Instructions.{instruction_answer, after_instruction, after_all};
+ghost use Rattle.table_register.specs.Table.{Covered};
+ghost use Rattle.day_book.specs.Entering.{each_accepted};
+ghost use Rattle.day_book.specs.DayTable.{waits, posted_in, LaterPlacesStay, Posted};
 ghost use Rattle.day_book.specs.DayMeaning.{means};
 
 use crate::day::DayBook;
 use register::instruction::Instruction;
-use register::transfers::Transfers;
 use table_register::counts::Counts;
-use table_register::table::TableRegister;
 
-// Posts an entry. Each call is made here, and not by `carry_out`: that, for registers of any make, does not tell that
-// the later places of the memory stay.
-fn post_entry(posted: &mut TableRegister<'_>, entry: Instruction)
-    ensures meaning { posted_means posted.new ≡ after_instruction (posted_means posted.old) entry }
-    ensures later { LaterPlacesStay (posted.old.counts.accounts * posted.old.counts.assets) posted.old.cells.now posted.new.cells.now }
-    ensures lender { posted.new.cells.ghost_name ≡ posted.old.cells.ghost_name }
+// The place of a balance in the memory.
+fn place(counts: &Counts, account: usize, asset: usize) -> usize
+    requires known { (account < counts.now.accounts) × (asset < counts.now.assets) }
+    ensures place { result ≡ account * counts.now.assets + asset }
+    ensures inside { result < counts.now.accounts * counts.now.assets }
 {
-    let _ = match entry {
+    account * counts.assets + asset
+}
+
+// Posts an accepted credit.
+fn post_credit(cells: &mut [u64], counts: &mut Counts, account: usize, asset: usize, amount: u64)
+    requires size { counts.old.accounts * counts.old.assets ≤ length cells.old }
+    requires covered { Covered cells.old counts.old.accounts counts.old.assets counts.old.issues }
+    requires accepted { credit_refused (posted_in cells.old counts.old) account asset amount ≡ None }
+    ensures meaning { posted_in cells.new counts.new ≡ with_credit (posted_in cells.old counts.old) account asset amount }
+    ensures size { counts.new.accounts * counts.new.assets ≤ length cells.new }
+    ensures covered { Covered cells.new counts.new.accounts counts.new.assets counts.new.issues }
+    ensures later { LaterPlacesStay (counts.old.accounts * counts.old.assets) cells.old cells.new }
+{
+    let to = place(counts, account, asset);
+    cells[to] += amount;
+    counts.issues[asset] += amount;
+}
+
+// Posts an accepted move.
+fn post_move(
+    cells: &mut [u64],
+    counts: &Counts,
+    giver: usize,
+    taker: usize,
+    asset: usize,
+    amount: u64,
+)
+    requires size { counts.now.accounts * counts.now.assets ≤ length cells.old }
+    requires covered { Covered cells.old counts.now.accounts counts.now.assets counts.now.issues }
+    requires accepted { transfer_refused (posted_in cells.old counts.now) giver taker asset amount ≡ None }
+    ensures meaning { posted_in cells.new counts.now ≡ with_move (posted_in cells.old counts.now) giver taker asset amount }
+    ensures size { counts.now.accounts * counts.now.assets ≤ length cells.new }
+    ensures covered { Covered cells.new counts.now.accounts counts.now.assets counts.now.issues }
+    ensures later { LaterPlacesStay (counts.now.accounts * counts.now.assets) cells.old cells.new }
+{
+    let from = place(counts, giver, asset);
+    let to = place(counts, taker, asset);
+    cells[from] -= amount;
+    cells[to] += amount;
+}
+
+// Posts an accepted entry.
+fn post_entry(cells: &mut [u64], counts: &mut Counts, entry: Instruction)
+    requires size { counts.old.accounts * counts.old.assets ≤ length cells.old }
+    requires covered { Covered cells.old counts.old.accounts counts.old.assets counts.old.issues }
+    requires accepted { instruction_answer (posted_in cells.old counts.old) entry ≡ Ok tt }
+    ensures meaning { posted_in cells.new counts.new ≡ after_instruction (posted_in cells.old counts.old) entry }
+    ensures size { counts.new.accounts * counts.new.assets ≤ length cells.new }
+    ensures covered { Covered cells.new counts.new.accounts counts.new.assets counts.new.issues }
+    ensures later { LaterPlacesStay (counts.old.accounts * counts.old.assets) cells.old cells.new }
+{
+    match entry {
         Instruction::Credit {
             account,
             asset,
             amount,
-        } => posted.credit(account, asset, amount),
+        } => post_credit(cells, counts, account, asset, amount),
         Instruction::Move {
             giver,
             taker,
             asset,
             amount,
-        } => posted.transfer(giver, taker, asset, amount),
-    };
-}
-
-// Posts the entries, the oldest first.
-fn post_each(posted: &mut TableRegister<'_>, entries: &[Instruction])
-    ensures meaning { posted_means posted.new ≡ after_all (posted_means posted.old) entries.now }
-    ensures later { LaterPlacesStay (posted.old.counts.accounts * posted.old.counts.assets) posted.old.cells.now posted.new.cells.now }
-    ensures lender { posted.new.cells.ghost_name ≡ posted.old.cells.ghost_name }
-{
-    for entry in entries {
-        post_entry(posted, *entry);
+        } => post_move(cells, counts, giver, taker, asset, amount),
     }
 }
 
-// Lends the memory to a table register, which posts the entries, and tells the counts that it came to.
-fn post_in(cells: &mut [u64], counts: Counts, entries: &[Instruction]) -> Counts
-    requires size { counts.accounts * counts.assets ≤ length cells.old }
-    requires covered { Covered cells.old counts.accounts counts.assets counts.issues }
-    ensures meaning { table_meaning cells.new result.accounts result.assets result.issues ≡ after_all (table_meaning cells.old counts.accounts counts.assets counts.issues) entries.now }
-    ensures size { result.accounts * result.assets ≤ length cells.new }
-    ensures covered { Covered cells.new result.accounts result.assets result.issues }
-    ensures later { LaterPlacesStay (counts.accounts * counts.assets) cells.old cells.new }
+// Posts the entries, the oldest first. None is checked again: each is accepted in its turn.
+fn post_each(cells: &mut [u64], counts: &mut Counts, entries: &[Instruction])
+    requires size { counts.old.accounts * counts.old.assets ≤ length cells.old }
+    requires covered { Covered cells.old counts.old.accounts counts.old.assets counts.old.issues }
+    requires accepted { each_accepted (posted_in cells.old counts.old) entries.now ≡ true }
+    ensures meaning { posted_in cells.new counts.new ≡ after_all (posted_in cells.old counts.old) entries.now }
+    ensures size { counts.new.accounts * counts.new.assets ≤ length cells.new }
+    ensures covered { Covered cells.new counts.new.accounts counts.new.assets counts.new.issues }
+    ensures later { LaterPlacesStay (counts.old.accounts * counts.old.assets) cells.old cells.new }
 {
-    let mut posted = TableRegister { cells, counts };
-    post_each(&mut posted, entries);
-    posted.counts
+    for entry in entries {
+        post_entry(cells, counts, *entry);
+    }
 }
 
 impl DayBook<'_> {
@@ -66,8 +106,8 @@ impl DayBook<'_> {
         ensures posted { Posted (means self.old) self.old.cells.now self.new.cells.now }
         ensures lender { self.new.cells.ghost_name ≡ self.old.cells.ghost_name }
     {
-        let entries = self.entries.take();
-        self.counts = post_in(self.cells, self.counts, &entries);
+        post_each(self.cells, &mut self.counts, &self.entries);
+        self.entries.clear();
     }
 
     // Posts what waits, so that the memory alone tells the balances.

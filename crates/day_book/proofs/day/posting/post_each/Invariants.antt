@@ -1,12 +1,13 @@
-use Rattle.std.proofs.Common.{◌≡◌, ◌*◌, take}
+use Rattle.std.proofs.Common.{◌≡◌, ◌*◌, ◌≤◌, length, take}
 use Rattle.register.specs.Instructions.{after_all}
-use Rattle.table_register.specs.TableMeaning.{means as posted_means}
-use Rattle.day_book.specs.DayTable.{LaterPlacesStay}
+use Rattle.table_register.specs.Table.{Covered}
+use Rattle.day_book.specs.DayTable.{posted_in, LaterPlacesStay}
 use Rattle.day_book.proofs.day.posting.post_each.Given as goal
 
 abbrev pub invariant-loop-entry : goal.invariant-loop-entry
 invariant-loop-entry l = record {
-  meaning : posted_means l.posted ≡ after_all (posted_means l.initial.posted) (take l.entry-index l.entries);
-  later : LaterPlacesStay (l.initial.posted.counts.accounts * l.initial.posted.counts.assets) l.initial.posted.cells.now l.posted.cells.now;
-  lender : l.posted.cells.ghost_name ≡ l.initial.posted.cells.ghost_name;
+  meaning : posted_in l.cells l.counts ≡ after_all (posted_in l.initial.cells l.initial.counts) (take l.entry-index l.entries);
+  size : l.counts.accounts * l.counts.assets ≤ length l.cells;
+  covered : Covered l.cells l.counts.accounts l.counts.assets l.counts.issues;
+  later : LaterPlacesStay (l.initial.counts.accounts * l.initial.counts.assets) l.initial.cells l.cells;
 }
