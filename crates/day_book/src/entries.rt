@@ -22,8 +22,8 @@ pub(crate) fn raise(issues: &mut [u64; MOST_ASSETS], entry: Instruction)
     }
 }
 
-// The balance of an account and asset after an entry, `held` before it. The asset is compared first, and in an arm of
-// each kind, so that an entry of another asset costs one comparison: by both kinds in one arm it would be picked first.
+// The balance of an account and asset after an entry, `held` before it. The asset is compared first, so that an entry of
+// another one is left at once; with an arm for each kind, since one arm for both would cost a pick of the field.
 pub(crate) fn applied(entry: Instruction, account: usize, asset: usize, held: u64) -> u64
     requires { apply entry account asset held ≤ most }
     ensures { result ≡ apply entry account asset held }
