@@ -15,6 +15,7 @@ use Rattle.day_book.specs.Entering.{apply, apply_all, each_accepted}
 use Rattle.day_book.specs.DayTable.{waits, day_cell, day_meaning, day_lawful}
 use Rattle.day_book.specs.DayMeaning.{posted_means, means, posted_lawful}
 
+-- An answer without a refusal accepts.
 pub accepts : (r : Answer) → is_ok r ≡ true → r ≡ Ok tt
 accepts (Ok _) e = refl
 accepts (Err _) e = absurd (false≢true e)

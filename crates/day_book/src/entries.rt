@@ -23,19 +23,19 @@ pub(crate) fn raise(issues: &mut [u64; MOST_ASSETS], entry: Instruction)
 }
 
 // The balance of an account and asset after an entry, `held` before it. The asset is compared first, so that an entry of
-// another one costs no more than that.
+// another one is left at once; with an arm for each kind, since one arm for both would cost a pick of the field.
 pub(crate) fn applied(entry: Instruction, account: usize, asset: usize, held: u64) -> u64
     requires { apply entry account asset held ≤ most }
     ensures { result ≡ apply entry account asset held }
 {
     match entry {
-        Instruction::Credit { asset: of, .. } | Instruction::Move { asset: of, .. }
-            if of != asset => held,
+        Instruction::Credit { asset: of, .. } if of != asset => held,
         Instruction::Credit {
             account: to,
             amount,
             ..
         } if to == account => held + amount,
+        Instruction::Move { asset: of, .. } if of != asset => held,
         Instruction::Move { giver, amount, .. } if giver == account => held.saturating_sub(amount),
         Instruction::Move { taker, amount, .. } if taker == account => held + amount,
         _ => held,
